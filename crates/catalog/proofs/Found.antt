@@ -51,7 +51,7 @@ index_behind name t (i ∷ is) os h =
   where
     by_test : IsNoTable (named_among name (map (λ (i : ListedIndex). (i.name, AnIndex (as_index t i))) is ++ os))
         → (b : Bool) → IsNoTable (cond b (Some (AnIndex (as_index t i))) (named_among name (map (λ (i : ListedIndex). (i.name, AnIndex (as_index t i))) is ++ os)))
-    by_test rest true = inr (as_index t i, refl, refl)
+    by_test rest true = inr (as_index t i, refl)
     by_test rest false = rest
 
 -- no table stands among the indexes

@@ -1,5 +1,5 @@
 -- The indexes of a table, in the database and in the list.
-use Rattle.std.proofs.Common.{◌≡◌, refl, sym, ap, subst, ◌∙◌, ℕ, ℤ, Bool, true, false, not, List, [], ◌∷◌, ◌++◌, map, Option, Some, None, cond}
+use Rattle.std.proofs.Common.{◌≡◌, refl, sym, ap, ◌∙◌, ℕ, ℤ, Bool, true, false, List, [], ◌∷◌, ◌++◌, map, Option, Some, None, cond}
 use Rattle.std.proofs.lemmas.Bool.{false≢true}
 use Rattle.std.proofs.lemmas.Cmp.{nat_list_cmp_total}
 use Rattle.std.proofs.lemmas.List.Folds.{list_any-append}
@@ -15,10 +15,10 @@ use Rattle.sqlval.specs.Names.{folded, is_same_name}
 use Rattle.sqlval.specs.declared.value.Value.{Value}
 use Rattle.catalog.specs.Database.{Name, Database, Object, ATable, AnIndex, AView, ATrigger, Index, indexes_of, name_order, object, with_object}
 use Rattle.catalog.specs.Listed.{as_index, index_objects, is_table, named_among, names_of, objects_of, table_named, table_object}
-use Rattle.catalog.specs.Named.{IsNamed, IsOfTables, ListsIndexes}
+use Rattle.catalog.specs.Named.{IsNamed, ListsIndexes}
 use Rattle.catalog.specs.declared.tables.Index.{Index as ListedIndex}
 use Rattle.catalog.specs.declared.tables.Table.{Table}
-use Rattle.catalog.proofs.Dropped.{has_name, is_no, joined, names_are, neither, other_name}
+use Rattle.catalog.proofs.Dropped.{is_no, joined, names_are, neither, other_name}
 use Rattle.catalog.proofs.NamedDatabases.{folded_twice, keeps_named, one_database, same_test}
 
 -- ---- the database that some objects of different names make

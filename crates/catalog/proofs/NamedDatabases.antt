@@ -225,7 +225,7 @@ rows_in : (rows_at : ℕ → List (ℤ × List Value)) (behind o : Object) (foun
     → as_object rows_at (Some behind) found ≡ Some o → holds_rows o ≡ true
 rows_in rows_at behind o (Some t) index each h = ap holds_rows (sym (same_object (ATable (with_rows t (rows_at t.root))) o h)) ∙ each t refl
 rows_in rows_at behind o None (inl none) each h = absurd (some_is_none behind none)
-rows_in rows_at behind o None (inr (i, is, plain)) each h = ap holds_rows (sym (same_object behind o h) ∙ same_object behind (AnIndex i) is)
+rows_in rows_at behind o None (inr (i, is)) each h = ap holds_rows (sym (same_object behind o h) ∙ same_object behind (AnIndex i) is)
 
 rows_of_found : (rows_at : ℕ → List (ℤ × List Value)) (behind : Option Object) (o : Object) (found : Option Table) → IsNoTable behind → ((t : Table) → found ≡ Some t → are_rows (with_rows t (rows_at t.root)) ≡ true)
     → as_object rows_at behind found ≡ Some o → holds_rows o ≡ true

@@ -33,13 +33,24 @@ fn columns_copy(alloc: Global, columns: &[Column]) -> R<Many<Column>>
     Ok(Many::from_vec(copy))
 }
 
-/// Copies of an index's columns.
-fn keys_copy(alloc: Global, columns: &[IndexColumn]) -> R<Many<IndexColumn>>
+/// A copy of the columns of a key. (`Memory` alone.)
+pub fn key_copy(alloc: Global, columns: &[IndexColumn]) -> R<Many<IndexColumn>>
     ensures { IsOrMemory (λ copy. copy ≡ columns.now) result }
 {
     let mut copy = Vec::new(alloc);
     'columns: for column in columns {
         copy.push(*column)?;
+    }
+    Ok(Many::from_vec(copy))
+}
+
+/// Copies of the columns of a table's keys.
+fn keys_copy(alloc: Global, keys: &[Many<IndexColumn>]) -> R<Many<Many<IndexColumn>>>
+    ensures { IsOrMemory (λ copy. copy ≡ keys.now) result }
+{
+    let mut copy = Vec::new(alloc);
+    'keys: for columns in keys {
+        copy.push(key_copy(alloc, columns.as_slice())?)?;
     }
     Ok(Many::from_vec(copy))
 }
@@ -50,8 +61,9 @@ fn index_copy(alloc: Global, index: &Index) -> R<Index>
 {
     Ok(Index {
         name: index.name.copy(alloc)?,
-        columns: keys_copy(alloc, index.columns.as_slice())?,
+        columns: key_copy(alloc, index.columns.as_slice())?,
         is_unique: index.is_unique,
+        is_automatic: index.is_automatic,
         root: index.root,
         rowid: index.rowid,
     })
@@ -90,6 +102,7 @@ fn copy_with(alloc: Global, table: &Table, indexes: Vec<Index>) -> R<Table>
         name: table.name.copy(alloc)?,
         columns: columns_copy(alloc, table.columns.as_slice())?,
         checks: table.checks.share()?,
+        keys: keys_copy(alloc, table.keys.as_slice())?,
         indexes: Many::from_vec(indexes),
         root: table.root,
         rowid: table.rowid,

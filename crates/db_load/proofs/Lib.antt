@@ -1,5 +1,11 @@
 pub mod AlikeTrees
+pub mod DueItems
 pub mod HeaderFaults
+pub mod Items
+pub mod KeyColumns
+pub mod KeyIndexes
+pub mod KeyRows
+pub mod KeyTotals
 pub mod LoadedUses
 pub mod MarkedUses
 pub mod PagesThere

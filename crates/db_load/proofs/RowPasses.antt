@@ -16,107 +16,24 @@ use Rattle.db_pages.specs.Reordering.{AreReordered}
 use Rattle.query_names.specs.Bound.{is_twice_named}
 use Rattle.db_pages.specs.Schema.{AreRowsOf, IndexTold, TableTold, Tells, Told, all_told}
 use Rattle.db_load.specs.Loading.{bare}
-use Rattle.db_load.specs.Reading.{AddsOf, AddsTold, AreAlike, AreSound, CanAdd, IsLoading, bare_told, is_of_pass, listed_by, name_told, parts_of}
+use Rattle.db_load.specs.Reading.{AddsOf, AddsTold, AreAlike, AreIndexed, AreSound, CanAdd, IsLoading, StandsIn, bare_told, is_of_pass, listed_by, name_told, parts_of}
 use Rattle.db_pages.proofs.Reordering.{all_reordered, is_reordered, reordered_all, reordered_both, reordered_front, reordered_is, reordered_map, reordered_parts, reordered_refl, reordered_sym, reordered_trans}
+use Rattle.db_load.proofs.Items.{all_among, all_both, all_front, among_apart, among_filter, among_first, among_map, among_middle, among_reordered, among_second, filter_middle, filter_none, filter_one, reordered_filter, to_front}
+use Rattle.db_load.proofs.KeyIndexes.{CanComeDue, told_due}
 use Rattle.db_load.proofs.ToldAdded.{index_parts, parts_more}
-use Rattle.db_load.proofs.ToldParts.{AreApart, HasOwnColumns, apart_bare, apart_named, apart_reordered, bare_apart, bare_names, columns_bare, is_named, map_append, named_apart, names_told, neither, not_taken}
-
--- ---- lists
-
-filter_append : {A : Type 0} (p : A → Bool) (xs ys : List A) → filter p (xs ++ ys) ≡ filter p xs ++ filter p ys
-filter_append p [] ys = refl
-filter_append {A} p (x ∷ xs) ys = by_test (p x) (filter_append p xs ys)
-  where
-    by_test : (b : Bool) → filter p (xs ++ ys) ≡ filter p xs ++ filter p ys → cond b (x ∷ filter p (xs ++ ys)) (filter p (xs ++ ys)) ≡ cond b (x ∷ filter p xs) (filter p xs) ++ filter p ys
-    by_test true e = ap (λ ls. x ∷ ls) e
-    by_test false e = e
-
-pub filter_one : {A : Type 0} (p : A → Bool) (xs : List A) (x : A) → p x ≡ true → filter p (xs ++ x ∷ []) ≡ filter p xs ++ x ∷ []
-filter_one p xs x h = filter_append p xs (x ∷ []) ∙ ap (λ (b : Bool). filter p xs ++ cond b (x ∷ []) []) h
-
-pub filter_none : {A : Type 0} (p : A → Bool) (xs : List A) (x : A) → p x ≡ false → filter p (xs ++ x ∷ []) ≡ filter p xs
-filter_none p xs x h = filter_append p xs (x ∷ []) ∙ (ap (λ (b : Bool). filter p xs ++ cond b (x ∷ []) []) h ∙ append-nil (filter p xs))
-
-filter_middle : {A : Type 0} (p : A → Bool) (c d : List A) (x : A) → filter p (c ++ x ∷ d) ≡ filter p c ++ cond (p x) (x ∷ filter p d) (filter p d)
-filter_middle p c d x = filter_append p c (x ∷ d)
-
-pub reordered_filter : {A : Type 0} (p : A → Bool) (xs ys : List A) → AreReordered xs ys → AreReordered (filter p xs) (filter p ys)
-reordered_filter p [] ys h = ap (filter p) h
-reordered_filter {A} p (x ∷ xs) ys (c, d, is, rest) =
-    reordered_is (filter p (x ∷ xs)) (filter p (c ++ x ∷ d)) (filter p ys) (ap (filter p) (sym is))
-    (by_test (p x) refl (reordered_is (filter p xs) (filter p (c ++ d)) (filter p c ++ filter p d) (filter_append p c d) (reordered_filter p xs (c ++ d) rest)))
-  where
-    by_test : (b : Bool) → p x ≡ b → AreReordered (filter p xs) (filter p c ++ filter p d) → AreReordered (cond b (x ∷ filter p xs) (filter p xs)) (filter p (c ++ x ∷ d))
-    by_test true e h =
-        reordered_is (x ∷ filter p xs) (filter p c ++ x ∷ filter p d) (filter p (c ++ x ∷ d)) (sym (filter_middle p c d x ∙ ap (λ b. filter p c ++ cond b (x ∷ filter p d) (filter p d)) e))
-        (filter p c, filter p d, refl, h)
-    by_test false e h =
-        reordered_is (filter p xs) (filter p c ++ filter p d) (filter p (c ++ x ∷ d)) (sym (filter_middle p c d x ∙ ap (λ b. filter p c ++ cond b (x ∷ filter p d) (filter p d)) e)) h
-
-all_both : {A : Type 0} (P : A → Type 0) (xs ys : List A) → AllByRecursion P xs → AllByRecursion P ys → AllByRecursion P (xs ++ ys)
-all_both P [] ys all others = others
-all_both P (x ∷ xs) ys all others = (all.0, all_both P xs ys all.1 others)
-
-all_front : {A : Type 0} (P : A → Type 0) (xs ys : List A) → AllByRecursion P (xs ++ ys) → AllByRecursion P xs
-all_front P [] ys all = tt
-all_front P (x ∷ xs) ys all = (all.0, all_front P xs ys all.1)
-
--- ---- an item among others
-
-abbrev pub IsAmong : {A : Type 0} → A → List A → Type 0
-IsAmong x [] = ⊥
-IsAmong x (y ∷ ys) = (y ≡ x) ⊎ IsAmong x ys
-
-among_first : {A : Type 0} (x : A) (xs ys : List A) → IsAmong x xs → IsAmong x (xs ++ ys)
-among_first x [] ys is = absurd is
-among_first x (y ∷ xs) ys (inl same) = inl same
-among_first x (y ∷ xs) ys (inr later) = inr (among_first x xs ys later)
-
-among_second : {A : Type 0} (x : A) (xs ys : List A) → IsAmong x ys → IsAmong x (xs ++ ys)
-among_second x [] ys is = is
-among_second x (y ∷ xs) ys is = inr (among_second x xs ys is)
-
-among_apart : {A B : Type 0} (x : A) (xs ys : List A) → (IsAmong x xs → B) → (IsAmong x ys → B) → IsAmong x (xs ++ ys) → B
-among_apart x [] ys first then is = then is
-among_apart x (y ∷ xs) ys first then (inl same) = first (inl same)
-among_apart x (y ∷ xs) ys first then (inr later) = among_apart x xs ys (λ is. first (inr is)) then later
-
-among_map : {A B : Type 0} (f : A → B) (x : A) (xs : List A) → IsAmong x xs → IsAmong (f x) (map f xs)
-among_map f x [] is = absurd is
-among_map f x (y ∷ xs) (inl same) = inl (ap f same)
-among_map f x (y ∷ xs) (inr later) = inr (among_map f x xs later)
-
-among_middle : {A : Type 0} (x : A) (c d : List A) → IsAmong x (c ++ x ∷ d)
-among_middle x c d = among_second x c (x ∷ d) (inl refl)
-
-pub among_reordered : {A : Type 0} (x : A) (xs ys : List A) → AreReordered xs ys → IsAmong x xs → IsAmong x ys
-among_reordered x [] ys h is = absurd is
-among_reordered x (y ∷ xs) ys (c, d, at, rest) (inl same) = subst (IsAmong x) (sym at) (among_second x c (y ∷ d) (inl same))
-among_reordered x (y ∷ xs) ys (c, d, at, rest) (inr later) =
-    subst (IsAmong x) (sym at)
-    (among_apart x c d (λ is. among_first x c (y ∷ d) is) (λ is. among_second x c (y ∷ d) (inr is)) (among_reordered x xs (c ++ d) rest later))
-
-among_filter : {A : Type 0} (p : A → Bool) (x : A) (xs : List A) → p x ≡ true → IsAmong x xs → IsAmong x (filter p xs)
-among_filter p x [] h is = absurd is
-among_filter {A} p x (y ∷ xs) h is = by_test (p y) refl (among_filter p x xs h) is
-  where
-    by_test : (b : Bool) → p y ≡ b → (IsAmong x xs → IsAmong x (filter p xs)) → IsAmong x (y ∷ xs) → IsAmong x (cond b (y ∷ filter p xs) (filter p xs))
-    by_test true e later (inl same) = inl same
-    by_test true e later (inr is) = inr (later is)
-    by_test false e later (inl same) = absurd (false≢true (sym e ∙ (ap p same ∙ h)))
-    by_test false e later (inr is) = later is
+use Rattle.db_load.proofs.ToldParts.{AreApart, HasOwnColumns, apart_bare, apart_more, apart_named, apart_reordered, bare_apart, bare_names, columns_bare, is_named, map_append, named_apart, names_told, neither, not_taken}
 
 -- ---- the table of an index is told too
 
 abbrev HasTable : List Told → Told → Type 0
 HasTable all (TableTold t) = ⊤
-HasTable all (IndexTold t i) = IsAmong (TableTold t) all
+HasTable all (IndexTold t i) = StandsIn (TableTold t) all
 
-indexes_have : (all : List Told) (t : Table) (is : List Index) → IsAmong (TableTold t) all → AllByRecursion (HasTable all) (map (λ (i : Index). IndexTold t i) is)
+indexes_have : (all : List Told) (t : Table) (is : List Index) → StandsIn (TableTold t) all → AllByRecursion (HasTable all) (map (λ (i : Index). IndexTold t i) is)
 indexes_have all t [] is_there = tt
 indexes_have all t (i ∷ is) is_there = (is_there, indexes_have all t is is_there)
 
-told_have : (all : List Told) (ts : List Table) → ((t : Table) → IsAmong (TableTold t) (all_told ts) → IsAmong (TableTold t) all) → AllByRecursion (HasTable all) (all_told ts)
+told_have : (all : List Told) (ts : List Table) → ((t : Table) → StandsIn (TableTold t) (all_told ts) → StandsIn (TableTold t) all) → AllByRecursion (HasTable all) (all_told ts)
 told_have all [] there = tt
 told_have all (t ∷ ts) there = (
   tt,
@@ -124,12 +41,7 @@ told_have all (t ∷ ts) there = (
       (told_have all ts (λ u is. there u (inr (among_second (TableTold u) (map (λ (i : Index). IndexTold t i) t.indexes) (all_told ts) is)))),
 )
 
-all_among : (P : Told → Type 0) (x : Told) (xs : List Told) → AllByRecursion P xs → IsAmong x xs → P x
-all_among P x [] all is = absurd is
-all_among P x (y ∷ xs) all (inl same) = subst P same all.0
-all_among P x (y ∷ xs) all (inr later) = all_among P x xs all.1 later
-
-pub table_among : (tables : List Table) (told : List Told) (t : Table) (i : Index) → AreReordered told (all_told tables) → IsAmong (IndexTold t i) told → IsAmong (TableTold t) told
+pub table_among : (tables : List Table) (told : List Told) (t : Table) (i : Index) → AreReordered told (all_told tables) → StandsIn (IndexTold t i) told → StandsIn (TableTold t) told
 table_among tables told t i h is =
     all_among (HasTable told) (IndexTold t i) told
     (reordered_all (HasTable told) told (all_told tables) h (told_have told tables (λ u there. among_reordered (TableTold u) (all_told tables) told (reordered_sym told (all_told tables) h) there))) is
@@ -139,7 +51,7 @@ table_among tables told t i h is =
 no_index : {B : Type 0} (b t : Table) (i : Index) → IndexTold t i ≡ TableTold b → B
 no_index b t i h = absurd cc
 
-not_among_indexes : {B : Type 0} (b t : Table) (is : List Index) → IsAmong (TableTold b) (map (λ (i : Index). IndexTold t i) is) → B
+not_among_indexes : {B : Type 0} (b t : Table) (is : List Index) → StandsIn (TableTold b) (map (λ (i : Index). IndexTold t i) is) → B
 not_among_indexes b t [] is_there = absurd is_there
 not_among_indexes b t (i ∷ is) (inl same) = no_index b t i same
 not_among_indexes b t (i ∷ is) (inr later) = not_among_indexes b t is later
@@ -148,7 +60,7 @@ the_table : (t u : Table) → TableTold t ≡ TableTold u → t ≡ u
 the_table t u h = cc
 
 -- an item has one of the names
-name_among : (x : Told) (xs : List Told) (n : Name) → is_same_name n (name_told x) ≡ true → IsAmong x xs → list_any (is_same_name n) (names_told xs) ≡ true
+name_among : (x : Told) (xs : List Told) (n : Name) → is_same_name n (name_told x) ≡ true → StandsIn x xs → list_any (is_same_name n) (names_told xs) ≡ true
 name_among x [] n same is = absurd is
 name_among x (y ∷ xs) n same (inl e) = ap (λ b. b || list_any (is_same_name n) (names_told xs)) (ap (λ (z : Told). is_same_name n (name_told z)) e ∙ same)
 name_among x (y ∷ xs) n same (inr later) = ap (λ b. is_same_name n (name_told y) || b) (name_among x xs n same later) ∙ or_true (is_same_name n (name_told y))
@@ -162,16 +74,12 @@ pub record IsListed (tables : List Table) (b : Table) : Type 0 where
   pub listed : table_named b.name tables ≡ Some other
   pub alike : bare other ≡ b
 
-apart_more : (xs ys : List Told) → AreApart (xs ++ ys) → AreApart ys
-apart_more [] ys apart = apart
-apart_more (x ∷ xs) ys apart = apart_more xs ys (neither (list_any (is_same_name (name_told x)) (names_told (xs ++ ys))) (any_twice is_same_name (names_told (xs ++ ys))) apart).1
-
 -- a table that is told beside items of other names is found under its name
-pub listed_table : (ts : List Table) (b : Table) → AreApart (parts_of ts) → IsAmong (TableTold b) (parts_of ts) → IsListed ts b
+pub listed_table : (ts : List Table) (b : Table) → AreApart (parts_of ts) → StandsIn (TableTold b) (parts_of ts) → IsListed ts b
 listed_table [] b apart is = absurd is
 listed_table (u ∷ us) b apart is =
     by_test (is_table b.name u) refl (listed_table us b (apart_more (index_parts u) (parts_of us) both.1))
-    (subst (IsAmong (TableTold b)) (parts_more u us) is)
+    (subst (StandsIn (TableTold b)) (parts_more u us) is)
   where
     rest : List Told
     rest = index_parts u ++ parts_of us
@@ -179,7 +87,7 @@ listed_table (u ∷ us) b apart is =
     both : (list_any (is_same_name u.name) (names_told (index_parts u ++ parts_of us)) ≡ false) × (any_twice is_same_name (names_told (index_parts u ++ parts_of us)) ≡ false)
     both = neither (list_any (is_same_name u.name) (names_told rest)) (any_twice is_same_name (names_told rest)) (subst AreApart (parts_more u us) apart)
 
-    by_test : (c : Bool) → is_table b.name u ≡ c → (IsAmong (TableTold b) (parts_of us) → IsListed us b) → (TableTold (bare u) ≡ TableTold b) ⊎ IsAmong (TableTold b) (index_parts u ++ parts_of us)
+    by_test : (c : Bool) → is_table b.name u ≡ c → (StandsIn (TableTold b) (parts_of us) → IsListed us b) → (TableTold (bare u) ≡ TableTold b) ⊎ StandsIn (TableTold b) (index_parts u ++ parts_of us)
         → IsListed (u ∷ us) b
     by_test true e later (inl same) = record {
       other = u;
@@ -220,10 +128,6 @@ passes_apart xs =
 pub record IsParted (all listed : List Told) (x : Told) : Type 0 where
   pub others : List Told
   pub is : AreReordered all (x ∷ (listed ++ others))
-
--- what is moved to the front
-to_front : {A : Type 0} (c d : List A) (x : A) → AreReordered (c ++ x ∷ d) (x ∷ (c ++ d))
-to_front c d x = reordered_sym (x ∷ (c ++ d)) (c ++ x ∷ d) (c, d, refl, reordered_refl (c ++ d))
 
 table_parted : (before rest : List Told) (t : Table) → IsParted (before ++ TableTold t ∷ rest) (listed_by true before (TableTold t ∷ rest)) (TableTold t)
 table_parted before rest t = record {
@@ -373,26 +277,31 @@ module _ (first : Bool) (pages : ℕ) (tables : List Table) (before rest : List 
       old : List Told
       old = listed_by first before (x ∷ rest)
 
-next_told : (first : Bool) (pages : ℕ) (tables : List Table) (row : Entry) (left : List Entry) (now : List Table) (before rest : List Told) (x : Told) → AreSound tables
+-- an index that is told can come to its table
+can_come : (tables : List Table) (told : List Told) → AreIndexed tables → (x : Told) → AreReordered told (all_told tables) → StandsIn x told → CanComeDue x
+can_come tables told indexed x all is =
+    all_among CanComeDue x told (reordered_all CanComeDue told (all_told tables) all (told_due tables (named_apart tables indexed.sound.named) indexed.keys)) is
+
+next_told : (first : Bool) (pages : ℕ) (tables : List Table) (row : Entry) (left : List Entry) (now : List Table) (before rest : List Told) (x : Told) → AreIndexed tables
     → AreReordered (before ++ x ∷ rest) (all_told tables) → Tells pages x row → Pairwise (Tells pages) rest left → AreReordered (map bare_told (listed_by first before (x ∷ rest))) (parts_of now)
     → IsNextTold first pages tables row left now
-next_told true pages tables row left now before rest (TableTold t) sound all tells each listed =
+next_told true pages tables row left now before rest (TableTold t) indexed all tells each listed =
     let parted = table_parted before rest t in record {
       item = TableTold t;
       tells = tells;
       can = (
-        now_sound tables now sound (before ++ TableTold t ∷ rest) (listed_by true before (TableTold t ∷ rest)) (TableTold t) all parted listed,
-        next_fresh tables now sound (before ++ TableTold t ∷ rest) (listed_by true before (TableTold t ∷ rest)) (TableTold t) all parted listed,
+        now_sound tables now indexed.sound (before ++ TableTold t ∷ rest) (listed_by true before (TableTold t ∷ rest)) (TableTold t) all parted listed,
+        next_fresh tables now indexed.sound (before ++ TableTold t ∷ rest) (listed_by true before (TableTold t ∷ rest)) (TableTold t) all parted listed,
       );
       goes_on = λ new adds. on_added true pages tables before rest (TableTold t) left now all each new (filter_one (is_of_pass true) before (TableTold t) refl) listed adds;
     }
-next_told true pages tables row left now before rest (IndexTold t i) sound all tells each listed = record {
+next_told true pages tables row left now before rest (IndexTold t i) indexed all tells each listed = record {
   item = IndexTold t i;
   tells = tells;
   can = tt;
   goes_on = λ new same. on_same true pages tables before rest (IndexTold t i) left now all each new (filter_none (is_of_pass true) before (IndexTold t i) refl) listed same;
 }
-next_told false pages tables row left now before rest (TableTold t) sound all tells each listed = record {
+next_told false pages tables row left now before rest (TableTold t) indexed all tells each listed = record {
   item = TableTold t;
   tells = tells;
   can = tt;
@@ -400,21 +309,24 @@ next_told false pages tables row left now before rest (TableTold t) sound all te
       (ap (λ ls. filter (is_of_pass true) ls ++ filter (is_of_pass false) (before ++ TableTold t ∷ [])) (append_assoc before (TableTold t ∷ []) rest)
       ∙ ap (λ ls. filter (is_of_pass true) (before ++ TableTold t ∷ rest) ++ ls) (filter_none (is_of_pass false) before (TableTold t) refl)) listed same;
 }
-next_told false pages tables row left now before rest (IndexTold t i) sound all tells each listed =
+next_told false pages tables row left now before rest (IndexTold t i) indexed all tells each listed =
     let x : Told = IndexTold t i in
     let told : List Told = before ++ x ∷ rest in
     let old : List Told = listed_by false before (x ∷ rest) in
     let parted = index_parted before rest t i in
+    let can = can_come tables told indexed x all (among_middle x before rest) in
     let owner = table_among tables told t i all (among_middle x before rest) in
     let there = among_reordered (TableTold (bare t)) (map bare_told old) (parts_of now) listed
     (among_map bare_told (TableTold t) old (among_first (TableTold t) (filter (is_of_pass true) told) (filter (is_of_pass false) before) (among_filter (is_of_pass true) (TableTold t) told refl owner))) in
-    let found = listed_table now (bare t) (parts_apart tables now sound told old x all parted listed) there in
+    let found = listed_table now (bare t) (parts_apart tables now indexed.sound told old x all parted listed) there in
     record {
       item = x;
       tells = tells;
       can = record {
-        sound = now_sound tables now sound told old x all parted listed;
-        fresh = next_fresh tables now sound told old x all parted listed;
+        sound = now_sound tables now indexed.sound told old x all parted listed;
+        fresh = next_fresh tables now indexed.sound told old x all parted listed;
+        due = can.0;
+        due_once = can.1;
         other = found.other;
         listed = found.listed;
         alike = found.alike;
@@ -424,15 +336,15 @@ next_told false pages tables row left now before rest (IndexTold t i) sound all 
           ∙ (ap (λ ls. filter (is_of_pass true) told ++ ls) (filter_one (is_of_pass false) before x refl) ∙ sym (append_assoc (filter (is_of_pass true) told) (filter (is_of_pass false) before) (x ∷ [])))) listed adds;
     }
 
-pub row_comes : (first : Bool) (pages : ℕ) (tables : List Table) (row : Entry) (whole left : List Entry) (now : List Table) → AreSound tables → whole ≡ row ∷ left → IsLoading first pages tables whole now
+pub row_comes : (first : Bool) (pages : ℕ) (tables : List Table) (row : Entry) (whole left : List Entry) (now : List Table) → AreIndexed tables → whole ≡ row ∷ left → IsLoading first pages tables whole now
     → IsNextTold first pages tables row left now
-row_comes first pages tables row whole left now sound is l =
+row_comes first pages tables row whole left now indexed is l =
     by_rest l.rest l.all (subst (Pairwise (Tells pages) l.rest) is l.each) l.listed
   where
     by_rest : (rest : List Told) → AreReordered (l.before ++ rest) (all_told tables) → Pairwise (Tells pages) rest (row ∷ left) → AreReordered (map bare_told (listed_by first l.before rest)) (parts_of now)
         → IsNextTold first pages tables row left now
     by_rest [] all each listed = absurd each
-    by_rest (x ∷ rest) all each listed = next_told first pages tables row left now l.before rest x sound all each.0 each.1 listed
+    by_rest (x ∷ rest) all each listed = next_told first pages tables row left now l.before rest x indexed all each.0 each.1 listed
 
 -- ---- whole passes
 

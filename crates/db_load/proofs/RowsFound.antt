@@ -4,32 +4,28 @@ use Rattle.std.specs.List.{AllByRecursion}
 use Rattle.std.proofs.lemmas.List.{append-nil}
 use Rattle.tree_leaf.specs.Leaf.{Entry}
 use Rattle.tree_page.specs.Cells.{Pairwise}
-use Rattle.record.specs.Record.{DetermineValues}
-use Rattle.sqlval.specs.Lists.{any_twice}
-use Rattle.sqlval.specs.Names.{is_same_name}
+use Rattle.record.specs.Record.{DetermineValues, IsRecord}
 use Rattle.sqlval.specs.declared.value.Value.{Value}
 use Rattle.sqlval.specs.declared.value.Value.TheVariants.{Text}
-use Rattle.sql_syntax.specs.declared.create.TableDefinition.{TableDefinition}
 use Rattle.catalog.specs.Listed.{are_named_once}
+use Rattle.catalog.specs.declared.tables.Index.{Index}
 use Rattle.catalog.specs.declared.tables.Table.{Table}
 use Rattle.db_pages.specs.Reordering.{AreReordered}
 use Rattle.query_names.specs.Bound.{AreOnce, is_twice_named}
-use Rattle.query_names.proofs.CreatedTables.{named_columns}
-use Rattle.db_pages.specs.Schema.{AreRowsOf, IndexTold, IsTableOf, TableTold, Tells, Told, all_told}
+use Rattle.db_pages.specs.Schema.{AreRowsOf, IndexTold, TableTold, Tells, Told, all_told}
 use Rattle.db_load.specs.Loading.{kind_text}
-use Rattle.db_load.specs.Reading.{AreSound, Finds, FindsTold, IsKind, bare_told, is_of_pass, parts_of}
+use Rattle.db_load.specs.Reading.{AreSound, Finds, FindsTold, IsDueTold, IsKind, bare_told, is_of_pass, parts_of}
 use Rattle.db_pages.proofs.Reordering.{all_reordered, is_reordered, reordered_both, reordered_front, reordered_is, reordered_map, reordered_refl, reordered_swapped, reordered_trans}
+use Rattle.db_load.proofs.Items.{all_both}
+use Rattle.db_load.proofs.KeyIndexes.{AreAllDue, due_parts}
+use Rattle.db_load.proofs.SchemaTables.{columns_differ}
 use Rattle.db_load.proofs.ToldParts.{HasOwnColumns, added_named, bare_columns, columns_bare, columns_once, map_append}
 use Rattle.db_load.proofs.RowPasses.{columns_own, own_columns}
 
 -- ---- columns
 
--- the columns of a definition that names none twice have different names
-columns_differ : (d : TableDefinition) (t : Table) → IsTableOf d t → is_twice_named t.columns ≡ false
-columns_differ d t is = ap (any_twice is_same_name) (named_columns d.columns t.columns is.columns) ∙ is.once
-
 pub told_columns : (pages : ℕ) (x : Told) (row : Entry) → Tells pages x row → HasOwnColumns x
-told_columns pages (TableTold t) row tells = columns_differ tells.definition t tells.makes
+told_columns pages (TableTold t) row tells = columns_differ tells.definition.columns t.columns tells.makes.once tells.makes.columns
 told_columns pages (IndexTold t i) row tells = tt
 
 all_columns : (pages : ℕ) (told : List Told) (rows : List Entry) → Pairwise (Tells pages) told rows → AllByRecursion HasOwnColumns told
@@ -58,36 +54,68 @@ bare_tells pages (TableTold t) row tells = record {
   sql = tells.sql;
   definition = tells.definition;
   creates = tells.creates;
-  makes = record { free = tells.makes.free; once = tells.makes.once; name_is = tells.makes.name_is; columns = tells.makes.columns; checks = tells.makes.checks };
+  makes = record {
+    free = tells.makes.free;
+    once = tells.makes.once;
+    name_is = tells.makes.name_is;
+    columns = tells.makes.columns;
+    checks = tells.makes.checks;
+    keys = tells.makes.keys;
+  };
   rowid_is = tells.rowid_is;
   row_is = tells.row_is;
 }
-bare_tells pages (IndexTold t i) row tells = record {
+bare_tells pages (IndexTold t i) row (inl tells) = inl (record {
   sql = tells.sql;
   definition = tells.definition;
   creates = tells.creates;
-  makes = record { free = tells.makes.free; once = tells.makes.once; name_is = tells.makes.name_is; on = tells.makes.on; unique = tells.makes.unique; columns = tells.makes.columns };
+  makes = record {
+    free = tells.makes.free;
+    once = tells.makes.once;
+    name_is = tells.makes.name_is;
+    on = tells.makes.on;
+    unique = tells.makes.unique;
+    written = tells.makes.written;
+    columns = tells.makes.columns;
+  };
   rowid_is = tells.rowid_is;
   row_is = tells.row_is;
-}
+})
+bare_tells pages (IndexTold t i) row (inr tells) = inr (record { automatic = tells.automatic; rowid_is = tells.rowid_is; row_is = tells.row_is })
 
 tells_bare : (pages : ℕ) (x : Told) (row : Entry) → Tells pages x row → Tells pages (bare_told x) row
 tells_bare pages (TableTold t) row tells = record {
   sql = tells.sql;
   definition = tells.definition;
   creates = tells.creates;
-  makes = record { free = tells.makes.free; once = tells.makes.once; name_is = tells.makes.name_is; columns = tells.makes.columns; checks = tells.makes.checks };
+  makes = record {
+    free = tells.makes.free;
+    once = tells.makes.once;
+    name_is = tells.makes.name_is;
+    columns = tells.makes.columns;
+    checks = tells.makes.checks;
+    keys = tells.makes.keys;
+  };
   rowid_is = tells.rowid_is;
   row_is = tells.row_is;
 }
-tells_bare pages (IndexTold t i) row tells = record {
+tells_bare pages (IndexTold t i) row (inl tells) = inl (record {
   sql = tells.sql;
   definition = tells.definition;
   creates = tells.creates;
-  makes = record { free = tells.makes.free; once = tells.makes.once; name_is = tells.makes.name_is; on = tells.makes.on; unique = tells.makes.unique; columns = tells.makes.columns };
+  makes = record {
+    free = tells.makes.free;
+    once = tells.makes.once;
+    name_is = tells.makes.name_is;
+    on = tells.makes.on;
+    unique = tells.makes.unique;
+    written = tells.makes.written;
+    columns = tells.makes.columns;
+  };
   rowid_is = tells.rowid_is;
   row_is = tells.row_is;
-}
+})
+tells_bare pages (IndexTold t i) row (inr tells) = inr (record { automatic = tells.automatic; rowid_is = tells.rowid_is; row_is = tells.row_is })
 
 all_bare : (pages : ℕ) (told : List Told) (rows : List Entry) → Pairwise (Tells pages) told rows → Pairwise (Tells pages) (map bare_told told) rows
 all_bare pages [] [] each = tt
@@ -188,6 +216,7 @@ IsSaid first pages (Some x) row = (is_of_pass first x ≡ true) × Tells pages x
 pub record HasFound (first : Bool) (pages : ℕ) (rows : List Entry) (old new : List Table) : Type 0 where
   pub said : List (Option Told)
   pub each : Pairwise (IsSaid first pages) said rows
+  pub due : AllByRecursion IsDueTold (somes said)
   pub more : AreReordered (map bare_told (somes said) ++ parts_of old) (parts_of new)
   pub sound : AreSound new
 
@@ -199,6 +228,7 @@ pub has_found : (first : Bool) (pages : ℕ) (rows : List Entry) (old new : List
 has_found first pages [] old new sound same = record {
   said = [];
   each = tt;
+  due = tt;
   more = reordered_is (parts_of old) (parts_of old) (parts_of new) (ap parts_of (sym same)) (reordered_refl (parts_of old));
   sound = subst AreSound (sym same) sound;
 }
@@ -216,6 +246,7 @@ has_found first pages (row ∷ rows) old new sound (mid, finds, later) =
         let done = rest now in record {
           said = Some it.item ∷ done.said;
           each = ((it.pass, it.tells), done.each);
+          due = (it.due, done.due);
           more = reordered_trans (map bare_told (it.item ∷ somes done.said) ++ parts_of old) (map bare_told (somes done.said) ++ parts_of mid) (parts_of new)
               (middle (bare_told it.item) (map bare_told (somes done.said)) (parts_of old) (parts_of mid) it.adds.more) done.more;
           sound = done.sound;
@@ -224,6 +255,7 @@ has_found first pages (row ∷ rows) old new sound (mid, finds, later) =
         let done = rest (subst AreSound (sym same) sound) in record {
           said = None ∷ done.said;
           each = (kind, done.each);
+          due = done.due;
           more = subst (λ (us : List Table). AreReordered (map bare_told (somes done.said) ++ parts_of us) (parts_of new)) same done.more;
           sound = done.sound;
         }
@@ -236,6 +268,11 @@ not_both rest others h = absurd (let e : 116 ≡ 105 = ap code_of h in omega (ar
     code_of : List Value → ℕ
     code_of (Text (c ∷ cs) ∷ vs) = c
     code_of vs = 0
+
+-- the row of an index
+index_row : (pages : ℕ) (t : Table) (i : Index) (row : Entry) → Tells pages (IndexTold t i) row → (rest : List Value) × IsRecord row.payload (Text (codes "index") ∷ rest)
+index_row pages t i row (inl is) = (_, is.row_is.row_is)
+index_row pages t i row (inr is) = (_, is.row_is.row_is)
 
 pub record AreSaid (pages : ℕ) (first second : List Told) (rows : List Entry) : Type 0 where
   pub told : List Told
@@ -268,16 +305,26 @@ both_said one pages (None ∷ first) (Some (TableTold t) ∷ second) (row ∷ ro
 both_said one pages (None ∷ first) (None ∷ second) (row ∷ rows) each also =
     not_both also.0.0 each.0.0 (one row.payload (Text (kind_text true) ∷ also.0.0) (Text (kind_text false) ∷ each.0.0) also.0.1 each.0.1)
 both_said one pages (Some (TableTold t) ∷ first) (Some (IndexTold u i) ∷ second) (row ∷ rows) each also =
-    not_both _ _ (one row.payload _ _ each.0.1.row_is.row_is also.0.1.row_is.row_is)
+    let index = index_row pages u i row also.0.1 in not_both _ index.0 (one row.payload _ _ each.0.1.row_is.row_is index.1)
 both_said one pages (Some (TableTold t) ∷ first) (Some (TableTold u) ∷ second) (row ∷ rows) each also = absurd (let h = also.0.0 in cc)
 both_said one pages (Some (IndexTold t i) ∷ first) (Some y ∷ second) (row ∷ rows) each also = absurd (let h = each.0.0 in cc)
 
 none_sound : AreSound []
 none_sound = record { columns = tt; named = refl }
 
+bare_due : (items : List Told) → AllByRecursion IsDueTold items → AllByRecursion IsDueTold (map bare_told items)
+bare_due [] all = tt
+bare_due (TableTold t ∷ items) all = (tt, bare_due items all.1)
+bare_due (IndexTold t i ∷ items) all = (all.0, bare_due items all.1)
+
+-- what a pass listed is such as keys ask for, where what was listed before is
+pub due_after : (first : Bool) (pages : ℕ) (rows : List Entry) (old new : List Table) → HasFound first pages rows old new → AllByRecursion IsDueTold (parts_of old) → AllByRecursion IsDueTold (parts_of new)
+due_after first pages rows old new has before =
+    all_reordered IsDueTold (map bare_told (somes has.said) ++ parts_of old) (parts_of new) has.more (all_both IsDueTold (map bare_told (somes has.said)) (parts_of old) (bare_due (somes has.said) has.due) before)
+
 -- what the passes listed is what the rows tell
 pub rows_tell : DetermineValues → (pages : ℕ) (rows : List Entry) (none mid new : List Table) → none ≡ [] → Finds true pages rows none mid → Finds false pages rows mid new
-    → AreRowsOf pages new rows × (are_named_once new ≡ true)
+    → AreRowsOf pages new rows × (are_named_once new ≡ true) × AreAllDue new
 rows_tell one pages rows none mid new empty finds finds_more =
     let first = has_found true pages rows none mid (subst AreSound (sym empty) none_sound) finds in
     let second = has_found false pages rows mid new first.sound finds_more in
@@ -292,4 +339,5 @@ rows_tell one pages rows none mid new empty finds finds_more =
           (reordered_trans (early ++ late) (late ++ early) (parts_of new) (reordered_swapped early late)
           (reordered_trans (late ++ early) (late ++ parts_of mid) (parts_of new) (reordered_both late late early (parts_of mid) (reordered_refl late) listed) second.more))),
       second.sound.named,
+      due_parts new (due_after false pages rows mid new second (due_after true pages rows none mid first (subst (λ (us : List Table). AllByRecursion IsDueTold (parts_of us)) (sym empty) tt))),
     )

@@ -1,5 +1,5 @@
 -- What the rows of the schema table tell is read of them, and nothing else.
-use Rattle.std.proofs.Common.{◌≡◌, ◌⊎◌, ◌≤◌, ◌<◌, ◌+◌, inl, inr, refl, sym, ap, subst, ◌∙◌, ℕ, ℤ, zero, suc, Bool, true, false, not, List, [], ◌∷◌, ◌++◌, length, map, drop, take, slice_index_or, arith}
+use Rattle.std.proofs.Common.{◌≡◌, ◌⊎◌, ◌≤◌, ◌<◌, ◌+◌, inl, inr, refl, sym, ap, subst, ◌∙◌, ℕ, ℤ, zero, suc, Bool, true, false, not, List, [], ◌∷◌, ◌++◌, length, map, Option, Some, None, drop, take, slice_index_or, arith}
 use Rattle.std.specs.Prelude.{Result, Ok, Err, IfErr, IsErrAnd, MatchResult, OnOk}
 use Rattle.std.specs.List.{Contains}
 use Rattle.std.proofs.lemmas.Bool.{false≢true}
@@ -9,37 +9,40 @@ use Rattle.sqlval.specs.Gives.{Refuses}
 use Rattle.sqlval.specs.declared.fault.Fault.{Fault}
 use Rattle.sqlval.specs.declared.fault.Fault.TheVariants as fault
 use Rattle.sqlval.specs.declared.fault.Misuse.TheVariants.{DoubledColumn}
-use Rattle.sqlval.specs.Names.{folded}
+use Rattle.sqlval.specs.Lists.{any_twice}
+use Rattle.sqlval.specs.Names.{folded, is_same_name}
 use Rattle.sqlval.specs.Refusals.{Refusal, refusal_of}
+use Rattle.sqlval.specs.declared.collation.Collation.{Collation}
 use Rattle.sqlval.specs.declared.value.Value.{Value}
 use Rattle.record.specs.Record.{IsRecord}
 use Rattle.tree_leaf.specs.Leaf.{Entry}
 use Rattle.sql_syntax.specs.declared.create.Create.{Create}
 use Rattle.sql_syntax.specs.declared.create.NewObject.{NewObject}
-use Rattle.sql_syntax.specs.declared.create.NewObject.TheVariants as new
 use Rattle.sql_syntax.specs.declared.create.ColumnDefinition.{ColumnDefinition}
 use Rattle.sql_syntax.specs.declared.create.TableDefinition.{TableDefinition}
 use Rattle.sql_syntax.specs.declared.statement.Statement.{Statement}
 use Rattle.sql_syntax.specs.declared.statement.Statement.TheVariants as statement
 use Rattle.sql_grammar.specs.Statements.{is_statement_within}
 use Rattle.sql_grammar.specs.Texts.{IsStatementText}
-use Rattle.catalog.specs.Database.{TableColumn}
-use Rattle.catalog.specs.Listed.{is_name_of, tables_of}
+use Rattle.catalog.specs.Database.{Name, TableColumn}
+use Rattle.catalog.specs.Listed.{is_name_of, key_columns, tables_of}
 use Rattle.catalog.specs.declared.tables.Catalog.{Catalog}
 use Rattle.catalog.specs.declared.tables.Column.{Column}
+use Rattle.catalog.specs.declared.tables.IndexColumn.{IndexColumn}
 use Rattle.catalog.specs.declared.tables.Table.{Table}
 use Rattle.query_terms.specs.Terms.{Term}
-use Rattle.query_names.specs.Bound.{IsFaultOf}
+use Rattle.query_names.specs.Bound.{IsFaultOf, is_twice_named}
 use Rattle.query_names.specs.Checked.{Checked, faults, good, known_all, meant}
-use Rattle.query_names.specs.Creating.{checks_known, defined, described, has_doubled}
+use Rattle.query_names.specs.Creating.{checks_known, defined, described, has_doubled, has_rowid_key, table_keys_known}
 use Rattle.query_names.specs.Tables.{column_of}
-use Rattle.query_names.proofs.CreatedTables.{known_columns}
-use Rattle.db_pages.specs.Schema.{CreatesSupported, IndexTold, IsCreateOf, TableTold, Tells, Told, schema_row}
-use Rattle.db_load.specs.Loading.{AreRowValues, HasParts, IsOfRow, TellsTable, bare, kind_text}
+use Rattle.query_names.proofs.CreatedTables.{known_columns, named_columns}
+use Rattle.db_pages.specs.Schema.{HasRowOf, IndexTold, IsCreateOf, TableTold, Tells, Told, schema_row}
+use Rattle.db_load.specs.Loading.{AreRowValues, HasParts, IsOfRow, IsTextOf, TellsTable, bare, kind_text, text_of}
 use Rattle.db_load.specs.Reading.{AddsTold, AreSound, FindsParts, FindsRow, FindsTold, IsKind, TellsParts}
 use Rattle.db_load.specs.declared.schema.SchemaRow.{SchemaRow}
+use Rattle.db_load.proofs.KeyColumns.{keys_are}
 use Rattle.db_load.proofs.ToldAdded.{table_adds}
-use Rattle.db_load.proofs.ToldParts.{is_folded, is_named}
+use Rattle.db_load.proofs.ToldParts.{is_folded, is_named, is_not}
 
 -- ---- refusals
 
@@ -71,6 +74,14 @@ created sql s made o is of text within short = record {
     whole : s ≡ statement.Create (record { sql = made.sql; object = o })
     whole = is ∙ ap (λ (x : NewObject). statement.Create (record { sql = made.sql; object = x })) of
 
+-- the statement of a row's text, within the limits
+pub within_text : (row : SchemaRow) (text : List ℕ) (o : NewObject) → text_of row ≡ Some text → (made : IsCreateOf text o) → IsTextOf row (statement.Create (record { sql = made.sql; object = o }))
+within_text row text o is made = record { text = text; text_is = is; is = made.is; within = made.within; short = made.short }
+
+-- what it creates
+pub text_creates : (row : SchemaRow) (s : Statement) (made : Create) (o : NewObject) → (it : IsTextOf row s) → s ≡ statement.Create made → made.object ≡ o → IsCreateOf it.text o
+text_creates row s made o it is of = created it.text s made o is of it.is it.within it.short
+
 -- ---- columns
 
 none_among : {A : Type 0} (r : Refusal) → Contains [] r → A
@@ -85,13 +96,20 @@ columns_refused ds ts f (inr (inl doubled)) once same = absurd (false≢true (sy
 columns_refused ds ts f (inr (inr among)) once same =
     none_among (refusal_of f) (subst (λ (rs : List Refusal). Contains rs (refusal_of f)) (ap (faults {A = List TableColumn}) (known_columns ds ts same)) among)
 
--- nor CHECKs that are known
-pub checks_refused : (k : Checked (List Term)) (ts : List Term) (f : Fault) → IsFaultOf (faults k) f → k ≡ good ts → f ≡ fault.Memory
+-- nor CHECKs or keys that are known
+pub checks_refused : {A : Type 0} (k : Checked A) (ts : A) (f : Fault) → IsFaultOf (faults k) f → k ≡ good ts → f ≡ fault.Memory
 checks_refused k ts f (inl memory) is = memory
-checks_refused k ts f (inr among) is = none_among (refusal_of f) (subst (λ (rs : List Refusal). Contains rs (refusal_of f)) (ap (faults {A = List Term}) is) among)
+checks_refused {A} k ts f (inr among) is = none_among (refusal_of f) (subst (λ (rs : List Refusal). Contains rs (refusal_of f)) (ap (faults {A = A}) is) among)
 
 pub checks_are : (k : Checked (List Term)) (found ts : List Term) → k ≡ good found → k ≡ good ts → found ≡ ts
 checks_are k found ts one other = ap (meant {A = List Term}) (sym one ∙ other)
+
+pub keys_found : (k : Checked (List (List (ℕ × Collation)))) (found ts : List (List IndexColumn)) → k ≡ good (map key_columns found) → k ≡ good (map key_columns ts) → found ≡ ts
+keys_found k found ts one other = keys_are found ts (ap (meant {A = List (List (ℕ × Collation))}) (sym one ∙ other))
+
+-- the columns of a definition that names none twice have different names
+pub columns_differ : (ds : List ColumnDefinition) (columns : List Column) → has_doubled ds ≡ false → map described columns ≡ map defined ds → is_twice_named columns ≡ false
+columns_differ ds columns once same = ap (any_twice is_same_name) (named_columns ds columns same) ∙ once
 
 -- ---- results
 
@@ -134,13 +152,21 @@ module _ (table : Table) (row : SchemaRow) (tells : TellsTable table row) where
   pub checks_premise : (d : TableDefinition) (columns : List Column) → d ≡ tells.definition → columns ≡ table.columns → checks_known d columns ≡ good table.checks
   checks_premise d columns same are = ap (λ (x : TableDefinition). checks_known x columns) same ∙ ap (checks_known tells.definition) are ∙ tells.makes.checks
 
+  -- and keys
+  pub keys_premise : (d : TableDefinition) (columns : List Column) → d ≡ tells.definition → columns ≡ table.columns
+      → (is_twice_named columns ≡ false) × (table_keys_known d columns ≡ good (map key_columns table.keys))
+  keys_premise d columns same are = (
+    subst (λ (cs : List Column). is_twice_named cs ≡ false) (sym are) (columns_differ tells.definition.columns table.columns tells.makes.once tells.makes.columns),
+    ap (λ (x : TableDefinition). table_keys_known x columns) same ∙ ap (table_keys_known tells.definition) are ∙ tells.makes.keys,
+  )
+
   -- a table with the parts of the row
-  pub table_is : (d : TableDefinition) (found : Table) → d ≡ tells.definition → found.name ≡ d.name → found.columns ≡ table.columns → found.checks ≡ table.checks → found.indexes ≡ [] → found.root ≡ row.root → found.rowid ≡ row.rowid → found ≡ bare table
-  table_is d found same name columns checks none root rowid =
+  pub table_is : (d : TableDefinition) (found : Table) → d ≡ tells.definition → found.name ≡ d.name → found.columns ≡ table.columns → found.checks ≡ table.checks → found.keys ≡ table.keys → found.indexes ≡ [] → found.root ≡ row.root → found.rowid ≡ row.rowid → found ≡ bare table
+  table_is d found same name columns checks keys none root rowid =
       let n : found.name ≡ table.name = name ∙ (ap (λ (x : TableDefinition). x.name) same ∙ sym tells.makes.name_is) in
       let r : found.root ≡ table.root = root ∙ sym tells.root_is in
       let id : found.rowid ≡ table.rowid = rowid ∙ sym tells.rowid_is in
-      λ i. record { name = n i; columns = columns i; checks = checks i; indexes = none i; root = r i; rowid = id i }
+      λ i. record { name = n i; columns = columns i; checks = checks i; keys = keys i; indexes = none i; root = r i; rowid = id i }
 
 -- the table of a row is listed after the others
 pub table_listed : {Y : Type 0} (t found : Table) (old new : Catalog) (result : Result Y Fault) → found ≡ bare t → is_name_of (tables_of old) t.name ≡ false
@@ -157,6 +183,7 @@ table_found row found old new (Ok y) kind tells none fresh added = record {
   item = TableTold found;
   pass = refl;
   tells = (kind, tells);
+  due = tt;
   adds = table_adds found found (tables_of old) (tables_of new) none refl fresh added;
 }
 table_found row found old new (Err f) kind tells none fresh added = tt
@@ -173,7 +200,7 @@ pub record HasSaid (size : ℕ) (item : Told) (entry : Entry) : Type 0 where
   pub name : List ℕ
   pub table_name : List ℕ
   pub root : ℕ
-  pub sql : List ℕ
+  pub sql : Option (List ℕ)
   pub above : 1 < root
   pub within : root ≤ size
   pub row_is : IsRecord entry.payload (schema_row (kind_text kind) name table_name root sql)
@@ -185,17 +212,19 @@ said size (TableTold t) entry is = record {
   name = is.row_is.name;
   table_name = is.row_is.table_name;
   root = t.root;
-  sql = is.sql;
+  sql = Some is.sql;
   above = is.row_is.above;
   within = is.row_is.within;
   row_is = is.row_is.row_is;
   tells = λ row parts. (
     parts.kind_is,
     record {
+      text = is.sql;
+      text_is = parts.sql_is;
       definition = is.definition;
-      creates = subst (λ (b : List ℕ). CreatesSupported b (new.Table is.definition)) (sym parts.sql_is) is.creates;
+      creates = is.creates;
       names = record {
-        supported_forms = is.creates.1;
+        supported_forms = is_not (has_rowid_key is.definition) is.creates.1;
         name_is = is_named is.definition.name row.name.now (ap folded parts.name_is ∙ is.row_is.name_is);
         table_name_is = is_named is.definition.name row.table_name.now (ap folded parts.table_name_is ∙ is.row_is.table_name_is);
         free = is.makes.free;
@@ -206,20 +235,22 @@ said size (TableTold t) entry is = record {
     },
   );
 }
-said size (IndexTold t i) entry is = record {
+said size (IndexTold t i) entry (inl is) = record {
   kind = false;
   name = is.row_is.name;
   table_name = is.row_is.table_name;
   root = i.root;
-  sql = is.sql;
+  sql = Some is.sql;
   above = is.row_is.above;
   within = is.row_is.within;
   row_is = is.row_is.row_is;
   tells = λ row parts. (
     parts.kind_is,
-    record {
+    inl (record {
+      text = is.sql;
+      text_is = parts.sql_is;
       definition = is.definition;
-      creates = subst (λ (b : List ℕ). CreatesSupported b (new.Index is.definition)) (sym parts.sql_is) is.creates;
+      creates = is.creates;
       names = record {
         name_is = is_named is.definition.name row.name.now (ap folded parts.name_is ∙ is.row_is.name_is);
         table_name_is = is_named is.definition.table row.table_name.now (ap folded parts.table_name_is ∙ is.row_is.table_name_is);
@@ -227,7 +258,28 @@ said size (IndexTold t i) entry is = record {
       makes = is.makes;
       root_is = sym parts.root_is;
       rowid_is = sym is.rowid_is ∙ sym parts.rowid_is;
-    },
+    }),
+  );
+}
+said size (IndexTold t i) entry (inr is) = record {
+  kind = false;
+  name = is.row_is.name;
+  table_name = is.row_is.table_name;
+  root = i.root;
+  sql = None;
+  above = is.row_is.above;
+  within = is.row_is.within;
+  row_is = is.row_is.row_is;
+  tells = λ row parts. (
+    parts.kind_is,
+    inr (record {
+      automatic = is.automatic;
+      no_text = parts.sql_is;
+      name_is = is_named i.name row.name.now (ap folded parts.name_is ∙ is.row_is.name_is);
+      table_name_is = is_named t.name row.table_name.now (ap folded parts.table_name_is ∙ is.row_is.table_name_is);
+      root_is = sym parts.root_is;
+      rowid_is = sym is.rowid_is ∙ sym parts.rowid_is;
+    }),
   );
 }
 
@@ -242,49 +294,53 @@ parts_at size item entry s rowid row at parts = s.tells row (subst (λ (id : ℤ
 
 module _ (size : ℕ) (entry : Entry) (payload : List ℕ) (row : SchemaRow) (values : List Value) (at : entry.rowid ≡ row.rowid) (is : entry.payload ≡ payload) (bytes : IsRecord payload values)
     (parts : AreRowValues size row values) where
-  row_bytes : IsRecord entry.payload (schema_row (kind_text row.is_table) row.name.now row.table_name.now row.root row.sql.now)
+  row_bytes : IsRecord entry.payload (schema_row (kind_text row.is_table) row.name.now row.table_name.now row.root (text_of row))
   row_bytes =
-      subst (λ (b : List ℕ). IsRecord b (schema_row (kind_text row.is_table) row.name.now row.table_name.now row.root row.sql.now)) (sym is) (subst (IsRecord payload) parts.values_are bytes)
+      subst (λ (b : List ℕ). IsRecord b (schema_row (kind_text row.is_table) row.name.now row.table_name.now row.root (text_of row))) (sym is) (subst (IsRecord payload) parts.values_are bytes)
 
-  row_of_kind : (kind : Bool) (root : ℕ) → row.is_table ≡ kind → root ≡ row.root → IsRecord entry.payload (schema_row (kind_text kind) row.name.now row.table_name.now root row.sql.now)
-  row_of_kind kind root same there =
-      subst (λ (n : ℕ). IsRecord entry.payload (schema_row (kind_text kind) row.name.now row.table_name.now n row.sql.now)) (sym there)
-      (subst (λ (k : Bool). IsRecord entry.payload (schema_row (kind_text k) row.name.now row.table_name.now row.root row.sql.now)) same row_bytes)
+  row_of_kind : (kind : Bool) (root : ℕ) (sql : Option (List ℕ)) → row.is_table ≡ kind → root ≡ row.root → text_of row ≡ sql
+      → IsRecord entry.payload (schema_row (kind_text kind) row.name.now row.table_name.now root sql)
+  row_of_kind kind root sql same there text =
+      subst (λ (o : Option (List ℕ)). IsRecord entry.payload (schema_row (kind_text kind) row.name.now row.table_name.now root o)) text
+      (subst (λ (n : ℕ). IsRecord entry.payload (schema_row (kind_text kind) row.name.now row.table_name.now n (text_of row))) (sym there)
+      (subst (λ (k : Bool). IsRecord entry.payload (schema_row (kind_text k) row.name.now row.table_name.now row.root (text_of row))) same row_bytes))
+
+  -- the row of these parts
+  has_row : (kind : Bool) (own_name on_table : Name) (root : ℕ) (sql : Option (List ℕ)) → row.is_table ≡ kind → is_same_name own_name row.name.now ≡ true → is_same_name on_table row.table_name.now ≡ true
+      → root ≡ row.root → text_of row ≡ sql → HasRowOf size (kind_text kind) own_name on_table root sql entry
+  has_row kind own_name on_table root sql same name table_name there text = record {
+    above = let a = parts.above in omega (arith, there, a);
+    within = let a = parts.within in omega (arith, there, a);
+    name = row.name.now;
+    name_is = is_folded own_name row.name.now name;
+    table_name = row.table_name.now;
+    table_name_is = is_folded on_table row.table_name.now table_name;
+    row_is = row_of_kind kind root sql same there text;
+  }
 
   -- what the parts of a row tell, the row does
   pub row_told : (item : Told) → TellsParts item row → Tells size item entry
-  row_told (TableTold t) tells = record {
-    sql = row.sql.now;
-    definition = tells.1.definition;
-    creates = tells.1.creates;
-    makes = tells.1.makes;
-    rowid_is = at ∙ sym tells.1.rowid_is;
-    row_is = record {
-      above = let h = tells.1.root_is in let a = parts.above in omega (arith, h, a);
-      within = let h = tells.1.root_is in let a = parts.within in omega (arith, h, a);
-      name = row.name.now;
-      name_is = is_folded tells.1.definition.name row.name.now tells.1.names.name_is;
-      table_name = row.table_name.now;
-      table_name_is = is_folded tells.1.definition.name row.table_name.now tells.1.names.table_name_is;
-      row_is = row_of_kind true t.root tells.0 tells.1.root_is;
-    };
+  row_told (TableTold t) (kind, tells) = record {
+    sql = tells.text;
+    definition = tells.definition;
+    creates = tells.creates;
+    makes = tells.makes;
+    rowid_is = at ∙ sym tells.rowid_is;
+    row_is = has_row true tells.definition.name tells.definition.name t.root (Some tells.text) kind tells.names.name_is tells.names.table_name_is tells.root_is tells.text_is;
   }
-  row_told (IndexTold t i) tells = record {
-    sql = row.sql.now;
-    definition = tells.1.definition;
-    creates = tells.1.creates;
-    makes = tells.1.makes;
-    rowid_is = at ∙ sym tells.1.rowid_is;
-    row_is = record {
-      above = let h = tells.1.root_is in let a = parts.above in omega (arith, h, a);
-      within = let h = tells.1.root_is in let a = parts.within in omega (arith, h, a);
-      name = row.name.now;
-      name_is = is_folded tells.1.definition.name row.name.now tells.1.names.name_is;
-      table_name = row.table_name.now;
-      table_name_is = is_folded tells.1.definition.table row.table_name.now tells.1.names.table_name_is;
-      row_is = row_of_kind false i.root tells.0 tells.1.root_is;
-    };
-  }
+  row_told (IndexTold t i) (kind, inl tells) = inl (record {
+    sql = tells.text;
+    definition = tells.definition;
+    creates = tells.creates;
+    makes = tells.makes;
+    rowid_is = at ∙ sym tells.rowid_is;
+    row_is = has_row false tells.definition.name tells.definition.table i.root (Some tells.text) kind tells.names.name_is tells.names.table_name_is tells.root_is tells.text_is;
+  })
+  row_told (IndexTold t i) (kind, inr tells) = inr (record {
+    automatic = tells.automatic;
+    rowid_is = at ∙ sym tells.rowid_is;
+    row_is = has_row false i.name t.name i.root None kind tells.name_is tells.table_name_is tells.root_is tells.no_text;
+  })
 
   -- what was found by the parts, was by the row
   pub row_found : {Y : Type 0} (first : Bool) (old new : List Table) (result : Result Y Fault)
@@ -293,5 +349,5 @@ module _ (size : ℕ) (entry : Entry) (payload : List ℕ) (row : SchemaRow) (va
   row_found first old new (Ok y) found = λ sound. by_case (found sound)
     where
       by_case : FindsParts first row old new ⊎ (row.is_table ≡ not first) × (new ≡ old) → FindsTold first size entry old new ⊎ IsKind (not first) entry × (new ≡ old)
-      by_case (inl f) = inl (record { item = f.item; pass = f.pass; tells = row_told f.item f.tells; adds = f.adds })
-      by_case (inr (kind, same)) = inr ((_, row_of_kind (not first) row.root kind refl), same)
+      by_case (inl f) = inl (record { item = f.item; pass = f.pass; tells = row_told f.item f.tells; due = f.due; adds = f.adds })
+      by_case (inr (kind, same)) = inr ((_, row_of_kind (not first) row.root (text_of row) kind refl refl), same)

@@ -63,6 +63,7 @@ module _ (m : PageMap) (size : ℕ) (tables : List Table) (db : Database) (held 
         tree = held.shared.trees.0;
         tell = held.tell;
         once = held.of_tables.once;
+        keys = held.keys;
         each = trees_have m size held.rows_at tables held.held held.each held.shared.trees.1;
         listed = subst (λ (h : Header). IsFreelist m size h.freelist_trunk h.freelist_count has.trunks) same has.listed;
       }
@@ -89,6 +90,7 @@ found_database listed m size header catalog whole first all = record {
     rows_at = rows_at;
     of_tables = record { lists = db.3; only = db.2; named = db.1; once = all.are.once };
     once = rows_once (length m) tables all.uses.schema all.are.tell;
+    keys = all.are.keys;
     header = header;
     header_is = first.header_is;
     sized = first.sized;

@@ -69,7 +69,7 @@ any_first p [] ys h = refl
 any_first p (x ∷ xs) ys h =
     let both = neither (p x) (list_any p (xs ++ ys)) h in ap (λ b. b || list_any p xs) both.0 ∙ any_first p xs ys both.1
 
-once_first : (xs ys : List Name) → any_twice is_same_name (xs ++ ys) ≡ false → any_twice is_same_name xs ≡ false
+pub once_first : (xs ys : List Name) → any_twice is_same_name (xs ++ ys) ≡ false → any_twice is_same_name xs ≡ false
 once_first [] ys h = refl
 once_first (x ∷ xs) ys h =
     let both = neither (list_any (is_same_name x) (xs ++ ys)) (any_twice is_same_name (xs ++ ys)) h in
@@ -169,11 +169,11 @@ grown_parts n i (t ∷ ts) u once found =
             (reordered_both front front (x ∷ parts_of ts) (parts_of (with_replaced (with_index i u) ts)) (reordered_refl front) rest)))
 
 -- an index of a new name is listed with its table
-pub index_adds : (t : Table) (i : Index) (n : Name) (grown : Table) (old new : List Table) → are_named_once old ≡ true → is_name_of old i.name ≡ false → IsGrown old n t i grown
+pub index_adds : (t : Table) (i : Index) (grown : Table) (old new : List Table) → are_named_once old ≡ true → is_name_of old i.name ≡ false → IsGrown old t i grown
     → new ≡ with_replaced grown old → AddsTold (IndexTold t i) old new
-index_adds t i n grown old new once fresh is by = record {
+index_adds t i grown old new once fresh is by = record {
   fresh = fresh;
   more =
       reordered_is (IndexTold (bare t) i ∷ parts_of old) (parts_of (with_replaced (with_index i is.other) old)) (parts_of new) (ap parts_of (sym (by ∙ ap (λ (u : Table). with_replaced u old) is.grown_is)))
-      (subst (λ (u : Table). AreReordered (IndexTold u i ∷ parts_of old) (parts_of (with_replaced (with_index i is.other) old))) is.alike (grown_parts n i old is.other (tables_once old once) is.listed));
+      (subst (λ (u : Table). AreReordered (IndexTold u i ∷ parts_of old) (parts_of (with_replaced (with_index i is.other) old))) is.alike (grown_parts is.name i old is.other (tables_once old once) is.listed));
 }

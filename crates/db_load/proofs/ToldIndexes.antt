@@ -6,7 +6,6 @@ use Rattle.std.proofs.lemmas.Bool.{false≢true}
 use Rattle.sqlval.specs.Faults.{IsOrMemory}
 use Rattle.sqlval.specs.Names.{is_same_name}
 use Rattle.sqlval.specs.Refusals.{Refusal, refusal_of}
-use Rattle.sqlval.specs.declared.collation.Collation.{Collation}
 use Rattle.sqlval.specs.declared.fault.Fault.{Fault}
 use Rattle.sqlval.specs.declared.fault.Fault.TheVariants as fault
 use Rattle.sql_syntax.specs.declared.create.IndexDefinition.{IndexDefinition}
@@ -20,33 +19,14 @@ use Rattle.query_names.specs.Checked.{faults, good}
 use Rattle.query_bind.specs.Indexed.{IsIndexOn, IsIndexRefusal, key_of, keys_known}
 use Rattle.sql_syntax.specs.declared.create.NewObject.TheVariants as new
 use Rattle.db_pages.specs.Schema.{CreatesSupported, IndexTold, IsIndexOf}
-use Rattle.db_load.specs.Loading.{IsOfIndexRow, TellsIndex, bare}
+use Rattle.db_load.specs.Loading.{IsOfIndexRow, TellsIndex, bare, text_of}
 use Rattle.db_load.specs.Reading.{AddsTold, AreSound, CanGrow, FindsParts, GrowsBy, IsGrown}
 use Rattle.db_load.specs.declared.schema.SchemaRow.{SchemaRow}
+use Rattle.db_load.proofs.KeyColumns.{key_is}
 use Rattle.db_load.proofs.ToldAdded.{index_adds, named_folded}
 use Rattle.db_load.proofs.ToldParts.{is_folded}
 
 -- ---- columns
-
-key_parts : (a b : IndexColumn) → key_of a ≡ key_of b → a ≡ b
-key_parts a b h =
-    let place : a.place ≡ b.place = ap (λ (p : ℕ × Collation). p.0) h in
-    let collation : a.collation ≡ b.collation = ap (λ (p : ℕ × Collation). p.1) h in
-    λ i. record { place = place i; collation = collation i }
-
-keys_are : (them bs : List IndexColumn) → map key_of them ≡ map key_of bs → them ≡ bs
-keys_are [] [] h = refl
-keys_are [] (b ∷ bs) h = absurd cc
-keys_are (a ∷ them) [] h = absurd cc
-keys_are (a ∷ them) (b ∷ bs) h =
-    let first = key_parts a b (first_of (key_of a) (key_of b) (map key_of them) (map key_of bs) h) in
-    let rest = keys_are them bs (rest_of (key_of a) (key_of b) (map key_of them) (map key_of bs) h) in λ i. first i ∷ rest i
-  where
-    first_of : {A : Type 0} (x y : A) (xs ys : List A) → x ∷ xs ≡ y ∷ ys → x ≡ y
-    first_of x y xs ys h = cc
-
-    rest_of : {A : Type 0} (x y : A) (xs ys : List A) → x ∷ xs ≡ y ∷ ys → xs ≡ ys
-    rest_of x y xs ys h = cc
 
 good_is : {A : Type 0} (x y : A) → good x ≡ good y → x ≡ y
 good_is x y h = cc
@@ -56,7 +36,7 @@ pub keys_bare : (t u : Table) (d : IndexDefinition) → bare t ≡ bare u → ke
 keys_bare t u d alike = ap (λ (x : Table). keys_known x d) alike
 
 pub columns_same : (t u : Table) (d : IndexDefinition) (them bs : List IndexColumn) → bare t ≡ bare u → keys_known t d ≡ good (map key_of them) → keys_known u d ≡ good (map key_of bs) → them ≡ bs
-columns_same t u d them bs alike one other = keys_are them bs (good_is (map key_of them) (map key_of bs) (sym one ∙ (keys_bare t u d alike ∙ other)))
+columns_same t u d them bs alike one other = key_is them bs (good_is (map key_of them) (map key_of bs) (sym one ∙ (keys_bare t u d alike ∙ other)))
 
 -- ---- the table
 
@@ -92,10 +72,11 @@ not_refused ts t i d f can is (inr (inr (inr (inr (inr (u, named, has)))))) = no
 
 -- the index of a row is the one that the row tells
 pub is_grown : (ts : List Table) (t u : Table) (i found : Index) (row : SchemaRow) (d : IndexDefinition) (grown : Table) (can : CanGrow ts t i) (tells : TellsIndex t i row) → d ≡ tells.definition
-    → IsIndexOn ts d u found.columns → found.name ≡ d.name → found.is_unique ≡ d.is_unique → found.root ≡ row.root → found.rowid ≡ row.rowid → grown ≡ with_index found u → IsGrown ts tells.definition.table t i grown
-is_grown ts t u i found row d grown can tells same on name unique root rowid by = record {
+    → IsIndexOn ts d u found.columns → found.name ≡ d.name → found.is_unique ≡ d.is_unique → found.is_automatic ≡ false → found.root ≡ row.root → found.rowid ≡ row.rowid → grown ≡ with_index found u → IsGrown ts t i grown
+is_grown ts t u i found row d grown can tells same on name unique automatic root rowid by = record {
+  name = d.table;
   other = u;
-  listed = ap (λ (x : IndexDefinition). table_named x.table ts) (sym same) ∙ on.on;
+  listed = on.on;
   alike = alike;
   grown_is = by ∙ ap (λ (x : Index). with_index x u) index_is;
 }
@@ -111,9 +92,10 @@ is_grown ts t u i found row d grown can tells same on name unique root rowid by 
         let n : found.name ≡ i.name = name ∙ sym makes.name_is in
         let cs : found.columns ≡ i.columns = columns_same u t d found.columns i.columns alike on.known makes.columns in
         let one : found.is_unique ≡ i.is_unique = unique ∙ sym makes.unique in
+        let auto : found.is_automatic ≡ i.is_automatic = automatic ∙ sym makes.written in
         let r : found.root ≡ i.root = root ∙ sym tells.root_is in
         let id : found.rowid ≡ i.rowid = rowid ∙ sym tells.rowid_is in
-        λ j. record { name = n j; columns = cs j; is_unique = one j; root = r j; rowid = id j }
+        λ j. record { name = n j; columns = cs j; is_unique = one j; is_automatic = auto j; root = r j; rowid = id j }
 
 -- the table that is found has the name
 pub named_so : (n : Name) (ts : List Table) (t : Table) → table_named n ts ≡ Some t → is_same_name t.name n ≡ true
@@ -124,23 +106,24 @@ named_so n (u ∷ us) t found = by_test (named_so n us t) (is_table n u) refl fo
     by_test later true e is = subst (λ (x : Table). is_same_name x.name n ≡ true) (some_is u t is) e
     by_test later false e is = later is
 
-pub makes_index : (ts : List Table) (t : Table) (i : Index) (d : IndexDefinition) → IsIndexOn ts d t i.columns → i.name ≡ d.name → i.is_unique ≡ d.is_unique → IsIndexOf d t i
-makes_index ts t i d on name unique = record {
+pub makes_index : (ts : List Table) (t : Table) (i : Index) (d : IndexDefinition) → IsIndexOn ts d t i.columns → i.name ≡ d.name → i.is_unique ≡ d.is_unique → i.is_automatic ≡ false → IsIndexOf d t i
+makes_index ts t i d on name unique automatic = record {
   free = on.free;
   once = on.once;
   name_is = name;
   on = is_folded t.name d.table (named_so d.table ts t on.on);
   unique = unique;
+  written = automatic;
   columns = on.known;
 }
 
 -- ---- the catalog
 
 -- the index of a row is listed with its table
-pub index_listed : {Y : Type 0} (t : Table) (i : Index) (n : Name) (grown : Table) (old new : List Table) (result : Result Y Fault) → CanGrow old t i → IsGrown old n t i grown
+pub index_listed : {Y : Type 0} (t : Table) (i : Index) (grown : Table) (old new : List Table) (result : Result Y Fault) → CanGrow old t i → IsGrown old t i grown
     → OnOk result (new ≡ with_replaced grown old) → IfErr result (λ f. f ≡ fault.Memory) → MatchResult result (λ done. AddsTold (IndexTold t i) old new) (λ f. f ≡ fault.Memory)
-index_listed t i n grown old new (Ok y) can is by refused = index_adds t i n grown old new can.sound.named can.fresh is by
-index_listed t i n grown old new (Err f) can is by refused = refused
+index_listed t i grown old new (Ok y) can is by refused = index_adds t i grown old new can.sound.named can.fresh is by
+index_listed t i grown old new (Err f) can is by refused = refused
 
 -- and the row tells it
 pub index_found : (row : SchemaRow) (grown : Table) (old new : List Table) → row.is_table ≡ false → AreSound old → GrowsBy old row grown → new ≡ with_replaced grown old → FindsParts false row old new
@@ -148,24 +131,27 @@ index_found row grown old new kind sound by now = record {
   item = IndexTold by.table by.index;
   pass = refl;
   tells = (kind, by.tells);
-  adds = index_adds by.table by.index by.tells.definition.table grown old new sound.named by.fresh (record { other = by.table; listed = by.listed; alike = refl; grown_is = by.grown_is }) now;
+  due = by.due;
+  adds = index_adds by.table by.index grown old new sound.named by.fresh (record { name = by.name; other = by.table; listed = by.listed; alike = refl; grown_is = by.grown_is }) now;
 }
 
 -- ---- a copy
 
 pub grown_as_told : (ts : List Table) (t u : Table) (i found : Index) (row : SchemaRow) (d : IndexDefinition) (result : Result Table Fault) (can : CanGrow ts t i) (tells : TellsIndex t i row) → d ≡ tells.definition
-    → IsIndexOn ts d u found.columns → found.name ≡ d.name → found.is_unique ≡ d.is_unique → found.root ≡ row.root → found.rowid ≡ row.rowid → IsOrMemory (λ copy. copy ≡ with_index found u) result
-    → IsOrMemory (IsGrown ts tells.definition.table t i) result
-grown_as_told ts t u i found row d (Ok grown) can tells same on name unique root rowid by = is_grown ts t u i found row d grown can tells same on name unique root rowid by
-grown_as_told ts t u i found row d (Err f) can tells same on name unique root rowid by = by
+    → IsIndexOn ts d u found.columns → found.name ≡ d.name → found.is_unique ≡ d.is_unique → found.is_automatic ≡ false → found.root ≡ row.root → found.rowid ≡ row.rowid → IsOrMemory (λ copy. copy ≡ with_index found u) result
+    → IsOrMemory (IsGrown ts t i) result
+grown_as_told ts t u i found row d (Ok grown) can tells same on name unique automatic root rowid by = is_grown ts t u i found row d grown can tells same on name unique automatic root rowid by
+grown_as_told ts t u i found row d (Err f) can tells same on name unique automatic root rowid by = by
 
-pub grown_found : (ts : List Table) (u : Table) (found : Index) (row : SchemaRow) (d : IndexDefinition) (result : Result Table Fault) → CreatesSupported row.sql.now (new.Index d) → IsOfIndexRow row d
-    → IsIndexOn ts d u found.columns → found.name ≡ d.name → found.is_unique ≡ d.is_unique → found.root ≡ row.root → found.rowid ≡ row.rowid → IsOrMemory (λ copy. copy ≡ with_index found u) result → IfOk result (GrowsBy ts row)
-grown_found ts u found row d (Err f) creates names on name unique root rowid by = tt
-grown_found ts u found row d (Ok grown) creates names on name unique root rowid by = record {
+pub grown_found : (ts : List Table) (u : Table) (found : Index) (row : SchemaRow) (d : IndexDefinition) (result : Result Table Fault) (text : List ℕ) → text_of row ≡ Some text → CreatesSupported text (new.Index d) → IsOfIndexRow row d
+    → IsIndexOn ts d u found.columns → found.name ≡ d.name → found.is_unique ≡ d.is_unique → found.is_automatic ≡ false → found.root ≡ row.root → found.rowid ≡ row.rowid → IsOrMemory (λ copy. copy ≡ with_index found u) result → IfOk result (GrowsBy ts row)
+grown_found ts u found row d (Err f) text text_is creates names on name unique automatic root rowid by = tt
+grown_found ts u found row d (Ok grown) text text_is creates names on name unique automatic root rowid by = record {
   table = u;
   index = found;
-  tells = record { definition = d; creates = creates; names = names; makes = makes_index ts u found d on name unique; root_is = root; rowid_is = rowid };
+  tells = inl (record { text = text; text_is = text_is; definition = d; creates = creates; names = names; makes = makes_index ts u found d on name unique automatic; root_is = root; rowid_is = rowid });
+  due = λ is. absurd (false≢true (sym automatic ∙ is));
+  name = d.table;
   listed = on.on;
   fresh = subst (λ (n : Name). is_name_of ts n ≡ false) (sym name) on.new;
   grown_is = by;

@@ -70,7 +70,7 @@ bare_names (x ∷ xs) = ap (λ n. n ∷ names_told (map bare_told xs)) (bare_nam
 abbrev names_in : Table → List Name
 names_in t = map (λ (i : Index). i.name) t.indexes
 
-index_names : (t : Table) (is : List Index) → names_told (map (λ (i : Index). IndexTold t i) is) ≡ map (λ (i : Index). i.name) is
+pub index_names : (t : Table) (is : List Index) → names_told (map (λ (i : Index). IndexTold t i) is) ≡ map (λ (i : Index). i.name) is
 index_names t [] = refl
 index_names t (i ∷ is) = ap (λ ns. i.name ∷ ns) (index_names t is)
 
@@ -140,13 +140,18 @@ AreApart items = any_twice is_same_name (names_told items) ≡ false
 pub apart_reordered : (xs ys : List Told) → AreReordered xs ys → AreApart xs → AreApart ys
 apart_reordered xs ys h apart = sym (reordered_twice (names_told xs) (names_told ys) (reordered_map name_told xs ys h)) ∙ apart
 
+-- the last of items of different names have different names
+pub apart_more : (xs ys : List Told) → AreApart (xs ++ ys) → AreApart ys
+apart_more [] ys apart = apart
+apart_more (x ∷ xs) ys apart = apart_more xs ys (neither (list_any (is_same_name (name_told x)) (names_told (xs ++ ys))) (any_twice is_same_name (names_told (xs ++ ys))) apart).1
+
 pub bare_apart : (items : List Told) → AreApart items → AreApart (map bare_told items)
 bare_apart items apart = ap (any_twice is_same_name) (bare_names items) ∙ apart
 
 pub apart_bare : (items : List Told) → AreApart (map bare_told items) → AreApart items
 apart_bare items apart = sym (ap (any_twice is_same_name) (bare_names items)) ∙ apart
 
-is_not : (b : Bool) → not b ≡ true → b ≡ false
+pub is_not : (b : Bool) → not b ≡ true → b ≡ false
 is_not true h = absurd (false≢true h)
 is_not false h = refl
 

@@ -13,7 +13,7 @@ use Rattle.tree_table.specs.Rows.{rows_from}
 use Rattle.tree_table.specs.Scanning.{BeginsAll, GivesBatch, IsForward}
 use Rattle.tree_table.specs.Tree.{IsTableTree}
 use Rattle.catalog.specs.declared.tables.Table.{Table}
-use Rattle.db_load.specs.Reading.{AreSound, Finds, FindsRow, IsLoading, LoadsNext}
+use Rattle.db_load.specs.Reading.{AreIndexed, Finds, FindsRow, IsLoading, LoadsNext}
 
 pub memory_passed : {X : Type 0} (P : X → Type 0) (r : Result X Fault) (f : Fault) → IsErrAnd r (λ e. e ≡ f) → f ≡ Memory → MatchResult r P (λ fault. fault ≡ Memory)
 memory_passed P (Ok x) f is why = absurd is
@@ -62,7 +62,7 @@ module _ {P K : Type 0} (below : P → K) (tells : K → Bool) (limits : K → L
     pub stays : Stays below map count failures {T = ⊤} (Ok tt) old now
     pub same_root : root ≡ 1
     pub loads : IsTrue (tells (below old)) → (tables : List Table) (rows : List Entry) (used : List ℕ) → AreWhole (limits (below old)).page (map old) → IsTableTree (map old) (limits (below old)).page 1 rows used
-        → AreSound tables → IsLoading first pages tables rows start → IsLoading first pages tables (rows_from next rows) here
+        → AreIndexed tables → IsLoading first pages tables rows start → IsLoading first pages tables (rows_from next rows) here
     pub told : IsTrue (tells (below old)) → (rows : List Entry) (used : List ℕ) → AreWhole (limits (below old)).page (map old) → IsTableTree (map old) (limits (below old)).page 1 rows used
         → AreFound first pages rows (rows_from next rows) start here
 
@@ -87,7 +87,7 @@ module _ {P K : Type 0} (below : P → K) (tells : K → Bool) (limits : K → L
     -- the batch and the rows after it are left
     left_now : (IsTrue (tells (below mid)) → GivesBatch (map mid) (limits (below mid)).page root next later batch (Ok tt))
         → IsTrue (tells (below old)) → (tables : List Table) (rows : List Entry) (used : List ℕ) → AreWhole (limits (below old)).page (map old) → IsTableTree (map old) (limits (below old)).page 1 rows used
-        → AreSound tables → IsLoading first pages tables rows start → IsLoading first pages tables (batch ++ rows_from later rows) here
+        → AreIndexed tables → IsLoading first pages tables rows start → IsLoading first pages tables (batch ++ rows_from later rows) here
     left_now gives told tables rows used whole tree sound l =
         subst (λ (es : List Entry). IsLoading first pages tables es here) (batch_since (Ok tt) gives told rows used whole tree).0 (has.loads told tables rows used whole tree sound l)
 
@@ -110,7 +110,7 @@ module _ {P K : Type 0} (below : P → K) (tells : K → Bool) (limits : K → L
     -- a row of the batch isn't read
     pub stops_there : (f : Fault) (after : List Table) → (IsTrue (tells (below mid)) → GivesBatch (map mid) (limits (below mid)).page root next later batch (Ok tt)) → LoadsNext first pages batch here after (Err f)
         → IsTrue (tells (below old)) → (tables : List Table) (rows : List Entry) (used : List ℕ) → AreWhole (limits (below old)).page (map old) → IsTableTree (map old) (limits (below old)).page 1 rows used
-        → AreSound tables → IsLoading first pages tables rows start → f ≡ Memory
+        → AreIndexed tables → IsLoading first pages tables rows start → f ≡ Memory
     stops_there f after gives loaded told tables rows used whole tree sound l = loaded tables (rows_from later rows) sound (left_now gives told tables rows used whole tree sound l)
 
     -- the next batch isn't read
@@ -121,7 +121,7 @@ module _ {P K : Type 0} (below : P → K) (tells : K → Bool) (limits : K → L
     -- at the end all rows were read
     pub all_loaded : next ≡ None
         → IsTrue (tells (below old)) → (tables : List Table) (rows : List Entry) (used : List ℕ) → AreWhole (limits (below old)).page (map old) → IsTableTree (map old) (limits (below old)).page 1 rows used
-        → AreSound tables → IsLoading first pages tables rows start → IsLoading first pages tables [] here
+        → AreIndexed tables → IsLoading first pages tables rows start → IsLoading first pages tables [] here
     all_loaded none told tables rows used whole tree sound l =
         subst (λ (es : List Entry). IsLoading first pages tables es here) (ap (λ at. rows_from at rows) none) (has.loads told tables rows used whole tree sound l)
 

@@ -1,5 +1,5 @@
 -- What `load` answers, and what one row of the schema table says (Database File Format, "Storage Of The SQL Database Schema").
-use Rattle.std.specs.Prelude.{◌≡◌, ◌<◌, ◌≤◌, true, false, ℕ, ℤ, Bool, codes, List, []}
+use Rattle.std.specs.Prelude.{◌≡◌, ◌<◌, ◌≤◌, true, false, ℕ, ℤ, Bool, codes, List, [], length, Option, Some, None, option_map}
 use Rattle.sqlval.specs.declared.fault.Fault.{Fault}
 use Rattle.sqlval.specs.declared.fault.Fault.TheVariants.{Blank}
 use Rattle.sqlval.specs.declared.value.Value.{Value}
@@ -9,12 +9,15 @@ use Rattle.pages.specs.Map.{PageMap}
 use Rattle.sql_syntax.specs.declared.create.IndexDefinition.{IndexDefinition}
 use Rattle.sql_syntax.specs.declared.create.NewObject.TheVariants as new
 use Rattle.sql_syntax.specs.declared.create.TableDefinition.{TableDefinition}
+use Rattle.sql_syntax.specs.declared.statement.Statement.{Statement}
+use Rattle.sql_grammar.specs.Statements.{is_statement_within}
+use Rattle.sql_grammar.specs.Texts.{IsStatementText}
 use Rattle.catalog.specs.Database.{Database}
 use Rattle.catalog.specs.Listed.{is_reserved, tables_of}
 use Rattle.catalog.specs.declared.tables.Catalog.{Catalog}
 use Rattle.catalog.specs.declared.tables.Index.{Index}
 use Rattle.catalog.specs.declared.tables.Table.{Table}
-use Rattle.query_names.specs.Creating.{has_no_keys}
+use Rattle.query_names.specs.Creating.{has_rowid_key}
 use Rattle.db_pages.specs.Schema.{CreatesSupported, IsIndexOf, IsTableOf, schema_row}
 use Rattle.db_pages.specs.Stored.{IsCounted, Stores}
 use Rattle.db_load.specs.declared.schema.SchemaRow.{SchemaRow}
@@ -36,20 +39,32 @@ abbrev pub kind_text : Bool → List ℕ
 kind_text true = codes "table"
 kind_text false = codes "index"
 
+-- the text of a row, or none
+abbrev pub text_of : SchemaRow → Option (List ℕ)
+text_of row = option_map (λ text. text.now) row.sql
+
 -- the parts of a row
-pub record HasParts (id : ℤ) (kind : Bool) (called table_called : List ℕ) (page : ℕ) (text : List ℕ) (row : SchemaRow) : Type 0 where
+pub record HasParts (id : ℤ) (kind : Bool) (called table_called : List ℕ) (page : ℕ) (text : Option (List ℕ)) (row : SchemaRow) : Type 0 where
   pub rowid_is : row.rowid ≡ id
   pub kind_is : row.is_table ≡ kind
   pub name_is : row.name.now ≡ called
   pub table_name_is : row.table_name.now ≡ table_called
   pub root_is : row.root ≡ page
-  pub sql_is : row.sql.now ≡ text
+  pub sql_is : text_of row ≡ text
 
 -- The values are those of a row with these parts. The page where its tree begins is one of so many.
 pub record AreRowValues (pages : ℕ) (row : SchemaRow) (values : List Value) : Type 0 where
-  pub values_are : values ≡ schema_row (kind_text row.is_table) row.name.now row.table_name.now row.root row.sql.now
+  pub values_are : values ≡ schema_row (kind_text row.is_table) row.name.now row.table_name.now row.root (text_of row)
   pub above : 1 < row.root
   pub within : row.root ≤ pages
+
+-- The row has a text, which is this statement within the limits.
+pub record IsTextOf (row : SchemaRow) (statement : Statement) : Type 0 where
+  pub text : List ℕ
+  pub text_is : text_of row ≡ Some text
+  pub is : IsStatementText text statement
+  pub within : is_statement_within statement ≡ true
+  pub short : length text ≤ 65536
 
 -- ---- what they tell
 
@@ -59,15 +74,17 @@ bare table = record table { indexes = [] }
 
 -- The definition is supported, and its name isn't reserved. The row has that name twice.
 pub record IsOfRow (row : SchemaRow) (definition : TableDefinition) : Type 0 where
-  pub supported_forms : has_no_keys definition ≡ true
+  pub supported_forms : has_rowid_key definition ≡ false
   pub name_is : is_same_name definition.name row.name.now ≡ true
   pub table_name_is : is_same_name definition.name row.table_name.now ≡ true
   pub free : is_reserved definition.name ≡ false
 
 -- The parts of a row tell this table.
 pub record TellsTable (table : Table) (row : SchemaRow) : Type 0 where
+  pub text : List ℕ
+  pub text_is : text_of row ≡ Some text
   pub definition : TableDefinition
-  pub creates : CreatesSupported row.sql.now (new.Table definition)
+  pub creates : CreatesSupported text (new.Table definition)
   pub names : IsOfRow row definition
   pub makes : IsTableOf definition table
   pub root_is : table.root ≡ row.root
@@ -78,11 +95,22 @@ pub record IsOfIndexRow (row : SchemaRow) (definition : IndexDefinition) : Type 
   pub name_is : is_same_name definition.name row.name.now ≡ true
   pub table_name_is : is_same_name definition.table row.table_name.now ≡ true
 
--- The parts of a row tell this index of the table.
+-- The parts of a row with a text tell this index of the table.
 pub record TellsIndex (table : Table) (index : Index) (row : SchemaRow) : Type 0 where
+  pub text : List ℕ
+  pub text_is : text_of row ≡ Some text
   pub definition : IndexDefinition
-  pub creates : CreatesSupported row.sql.now (new.Index definition)
+  pub creates : CreatesSupported text (new.Index definition)
   pub names : IsOfIndexRow row definition
   pub makes : IsIndexOf definition table index
+  pub root_is : index.root ≡ row.root
+  pub rowid_is : index.rowid ≡ row.rowid
+
+-- The parts of a row without a text tell this automatic index of the table.
+pub record TellsKeyIndex (table : Table) (index : Index) (row : SchemaRow) : Type 0 where
+  pub automatic : index.is_automatic ≡ true
+  pub no_text : text_of row ≡ None
+  pub name_is : is_same_name index.name row.name.now ≡ true
+  pub table_name_is : is_same_name table.name row.table_name.now ≡ true
   pub root_is : index.root ≡ row.root
   pub rowid_is : index.rowid ≡ row.rowid

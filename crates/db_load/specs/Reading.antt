@@ -1,7 +1,9 @@
 -- What the rows of the schema table add to a catalog, those of tables first and then those of indexes (Database File Format, "Storage Of The
 -- SQL Database Schema").
-use Rattle.std.specs.Prelude.{◌≡◌, ◌⊎◌, ⊤, ◌++◌, ◌∷◌, true, false, not, ℕ, Bool, List, [], Some, map, filter, Result, IfOk, OnOk, MatchResult}
+use Rattle.std.specs.Prelude.{◌≡◌, ◌⊎◌, ⊤, ◌++◌, ◌∷◌, ◌==◌, true, false, not, ℕ, Bool, List, [], Some, length, map, filter, Result, IfOk, OnOk, MatchResult}
 use Rattle.std.specs.List.{AllByRecursion}
+use Rattle.sqlval.specs.Lists.{any_twice}
+use Rattle.sqlval.specs.Names.{folded, is_same_name}
 use Rattle.sqlval.specs.declared.fault.Fault.{Fault}
 use Rattle.sqlval.specs.declared.fault.Fault.TheVariants.{Memory}
 use Rattle.sqlval.specs.declared.value.Value.{Value}
@@ -12,16 +14,17 @@ use Rattle.tree_leaf.specs.Leaf.{Entry}
 use Rattle.pages.specs.Map.{PageMap, AreWhole}
 use Rattle.tree_page.specs.Cells.{Pairwise}
 use Rattle.tree_table.specs.Tree.{IsTableTree}
-use Rattle.catalog.specs.Database.{Name}
-use Rattle.catalog.specs.Listed.{are_named_once, is_name_of, table_named, tables_of}
+use Rattle.catalog.specs.Database.{AnIndex, Name, Object}
+use Rattle.catalog.specs.Listed.{are_named_once, as_index, is_name_of, key_columns, table_named, tables_of}
 use Rattle.catalog.specs.NewIndexes.{with_index}
 use Rattle.catalog.specs.declared.tables.Catalog.{Catalog}
 use Rattle.catalog.specs.declared.tables.Index.{Index}
+use Rattle.catalog.specs.declared.tables.IndexColumn.{IndexColumn}
 use Rattle.catalog.specs.declared.tables.Table.{Table}
 use Rattle.query_names.specs.Bound.{is_twice_named}
 use Rattle.db_pages.specs.Reordering.{AreReordered}
-use Rattle.db_pages.specs.Schema.{AreRowsOf, IndexTold, TableTold, Tells, Told, all_told}
-use Rattle.db_load.specs.Loading.{TellsIndex, TellsTable, bare, kind_text}
+use Rattle.db_pages.specs.Schema.{AreRowsOf, HasKeyIndexes, IndexTold, TableTold, Tells, Told, all_told, due_objects}
+use Rattle.db_load.specs.Loading.{TellsIndex, TellsKeyIndex, TellsTable, bare, kind_text}
 use Rattle.db_load.specs.declared.schema.SchemaRow.{SchemaRow}
 
 -- ---- what is listed
@@ -48,21 +51,59 @@ pub record AreSound (tables : List Table) : Type 0 where
   pub columns : AllByRecursion (λ table. is_twice_named table.columns ≡ false) tables
   pub named : are_named_once tables ≡ true
 
+-- ---- automatic indexes
+
+-- the item is one of the list's
+abbrev pub StandsIn : {A : Type 0} → A → List A → Type 0
+StandsIn x [] = ⊥
+StandsIn x (y ∷ ys) = (y ≡ x) ⊎ StandsIn x ys
+
+-- the automatic index of a table on these columns
+abbrev pub due_object : Table → List IndexColumn → Object
+due_object table columns = AnIndex (record { table = folded table.name; is_unique = true; is_automatic = true; columns = key_columns columns })
+
+-- the index, if it is automatic, is one that the table's keys ask for
+abbrev pub IsDue : Table → Index → Type 0
+IsDue table index = index.is_automatic ≡ true → StandsIn (index.name, AnIndex (as_index table index)) (due_objects table)
+
+-- what is told is a table, or an index of which this is so
+abbrev pub IsDueTold : Told → Type 0
+IsDueTold (TableTold table) = ⊤
+IsDueTold (IndexTold table index) = IsDue table index
+
+-- no two of the indexes that the table's keys ask for have one name
+abbrev pub AreDueOnce : Table → Type 0
+AreDueOnce table = any_twice is_same_name (map (λ object. object.0) (due_objects table)) ≡ false
+
+-- the table has as many automatic indexes as keys
+abbrev pub has_all_keys : Table → Bool
+has_all_keys table = length (filter (λ index. index.is_automatic) table.indexes) == length table.keys
+
+-- The tables are sound, and each has the indexes that its keys ask for.
+pub record AreIndexed (tables : List Table) : Type 0 where
+  pub sound : AreSound tables
+  pub keys : AllByRecursion HasKeyIndexes tables
+
+-- ---- one more
+
 -- what is told is listed beside the others, under a name that none of them has
 pub record AddsTold (item : Told) (old new : List Table) : Type 0 where
   pub fresh : is_name_of old (name_told item) ≡ false
   pub more : AreReordered (bare_told item ∷ parts_of old) (parts_of new)
 
--- The index can be listed with its table: that is listed, and its name is new.
+-- The index can be listed with its table: that is listed, and its name is new. If it is automatic, one of the table's keys asks for it.
 pub record CanGrow (tables : List Table) (table : Table) (index : Index) : Type 0 where
   pub sound : AreSound tables
   pub fresh : is_name_of tables index.name ≡ false
+  pub due : IsDue table index
+  pub due_once : AreDueOnce table
   pub other : Table
   pub listed : table_named table.name tables ≡ Some other
   pub alike : bare other ≡ bare table
 
--- a listed table of this name, which is the table but for its indexes, has the index after its others
-pub record IsGrown (tables : List Table) (name : Name) (table : Table) (index : Index) (grown : Table) : Type 0 where
+-- a listed table, which is the table but for its indexes, has the index after its others
+pub record IsGrown (tables : List Table) (table : Table) (index : Index) (grown : Table) : Type 0 where
+  pub name : Name
   pub other : Table
   pub listed : table_named name tables ≡ Some other
   pub alike : bare other ≡ bare table
@@ -72,8 +113,10 @@ pub record IsGrown (tables : List Table) (name : Name) (table : Table) (index : 
 pub record GrowsBy (tables : List Table) (row : SchemaRow) (grown : Table) : Type 0 where
   pub table : Table
   pub index : Index
-  pub tells : TellsIndex table index row
-  pub listed : table_named tells.definition.table tables ≡ Some table
+  pub tells : TellsIndex table index row ⊎ TellsKeyIndex table index row
+  pub due : IsDue table index
+  pub name : Name
+  pub listed : table_named name tables ≡ Some table
   pub fresh : is_name_of tables index.name ≡ false
   pub grown_is : grown ≡ with_index index table
 
@@ -107,13 +150,14 @@ ReadsTold first item old new result = CanAdd first item old → MatchResult resu
 -- the parts of a row tell it
 abbrev pub TellsParts : Told → SchemaRow → Type 0
 TellsParts (TableTold table) row = (row.is_table ≡ true) × TellsTable table row
-TellsParts (IndexTold table index) row = (row.is_table ≡ false) × TellsIndex table index row
+TellsParts (IndexTold table index) row = (row.is_table ≡ false) × (TellsIndex table index row ⊎ TellsKeyIndex table index row)
 
 -- the row of these parts tells what was listed
 pub record FindsParts (first : Bool) (row : SchemaRow) (old new : List Table) : Type 0 where
   pub item : Told
   pub pass : is_of_pass first item ≡ true
   pub tells : TellsParts item row
+  pub due : IsDueTold item
   pub adds : AddsTold item old new
 
 -- the row is of this kind
@@ -125,6 +169,7 @@ pub record FindsTold (first : Bool) (pages : ℕ) (row : Entry) (old new : List 
   pub item : Told
   pub pass : is_of_pass first item ≡ true
   pub tells : Tells pages item row
+  pub due : IsDueTold item
   pub adds : AddsTold item old new
 
 -- the row tells what was listed, or it is left to the other pass
@@ -153,13 +198,13 @@ pub record IsLoading (first : Bool) (pages : ℕ) (tables : List Table) (left : 
 
 -- where these rows come next, what they tell was listed, and the other rows are left; or memory was short
 abbrev pub LoadsNext : Bool → ℕ → List Entry → List Table → List Table → Result ⊤ Fault → Type 0
-LoadsNext first pages rows old new result = (tables : List Table) (after : List Entry) → AreSound tables
+LoadsNext first pages rows old new result = (tables : List Table) (after : List Entry) → AreIndexed tables
     → IsLoading first pages tables (rows ++ after) old → MatchResult result (λ done. IsLoading first pages tables after new) (λ fault. fault ≡ Memory)
 
 -- where the rows of a tree under page 1 tell tables, what they tell was listed; or memory was short, or a disk's call failed
 abbrev pub LoadsRows : Bool → PageMap → ℕ → ℕ → List Table → List Table → Result ⊤ Fault → Type 0
 LoadsRows first map size pages old new result = (tables : List Table) (rows : List Entry) (used : List ℕ) → AreWhole size map
-    → IsTableTree map size 1 rows used → AreSound tables → IsLoading first pages tables rows old
+    → IsTableTree map size 1 rows used → AreIndexed tables → IsLoading first pages tables rows old
     → MatchResult result (λ done. IsLoading first pages tables [] new) IsOutside
 
 -- the rows of a tree under page 1 tell what was listed
@@ -170,9 +215,9 @@ FindsRows first map size pages old new result = (rows : List Entry) (used : List
 -- Where a tree under page 1 has rows that tell these tables, the catalog lists them; or memory was short, or a disk's call failed.
 abbrev pub LoadsTree : PageMap → ℕ → ℕ → Result Catalog Fault → Type 0
 LoadsTree map size pages result = (tables : List Table) (rows : List Entry) (used : List ℕ) → AreWhole size map → IsTableTree map size 1 rows used
-    → AreRowsOf pages tables rows → are_named_once tables ≡ true → IsOrOutside (λ catalog. AreAlike tables (tables_of catalog)) result
+    → AreRowsOf pages tables rows → are_named_once tables ≡ true → AllByRecursion HasKeyIndexes tables → IsOrOutside (λ catalog. AreAlike tables (tables_of catalog)) result
 
 -- where a tree has these rows, they tell the tables that the catalog lists
 abbrev pub TellsTree : PageMap → ℕ → ℕ → Result Catalog Fault → Type 0
 TellsTree map size pages result = (rows : List Entry) (used : List ℕ) → AreWhole size map → IsTableTree map size 1 rows used
-    → IfOk result (λ catalog. AreRowsOf pages (tables_of catalog) rows × (are_named_once (tables_of catalog) ≡ true))
+    → IfOk result (λ catalog. AreRowsOf pages (tables_of catalog) rows × (are_named_once (tables_of catalog) ≡ true) × AllByRecursion HasKeyIndexes (tables_of catalog))

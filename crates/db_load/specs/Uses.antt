@@ -21,7 +21,7 @@ use Rattle.row_scan.specs.Rows.{TableRow}
 use Rattle.row_scan.specs.Trees.{AreFitRows}
 use Rattle.tree_check.specs.Exact.{HasMarked}
 use Rattle.tree_check.specs.Marks.{mark_of, Marks, AreUnmarked}
-use Rattle.db_pages.specs.Schema.{AreRowsOf}
+use Rattle.db_pages.specs.Schema.{AreRowsOf, HasKeyIndexes}
 use Rattle.db_pages.specs.Stored.{all_trees}
 
 -- Page 1 begins with this header, which tells this page size, and counts so many pages, where its count holds.
@@ -57,11 +57,13 @@ pub record Uses : Type 0 where
 abbrev pub pages_used : Uses → List ℕ
 pages_used uses = uses.schema_used ++ (pages_held uses.held ++ pages_of uses.trunks)
 
--- The pages are used so: the schema table's rows tell these tables, each of them has its trees, and the header tells the freelist.
+-- The pages are used so: the schema table's rows tell these tables, each of them has its trees and the indexes that its keys ask for, and the
+-- header tells the freelist.
 pub record AreUses (map : PageMap) (size : ℕ) (header : Header) (tables : List Table) (uses : Uses) : Type 0 where
   pub tree : IsTableTree map size 1 uses.schema uses.schema_used
   pub tell : AreRowsOf (length map) tables uses.schema
   pub once : are_named_once tables ≡ true
+  pub keys : AllByRecursion HasKeyIndexes tables
   pub each : Pairwise (HasTrees map size) tables uses.held
   pub listed : IsFreelist map size header.freelist_trunk header.freelist_count uses.trunks
 

@@ -1,13 +1,11 @@
 //! The indexes that the rows of the schema table tell.
 
-ghost use Rattle.std.specs.Prelude.{◌≡◌, ◌≤◌, ◌⊎◌, false, true, not, List, Ok, IfOk, IfErr, IsOkAnd, OnOk, length, map};
+ghost use Rattle.std.specs.Prelude.{◌≡◌, ◌⊎◌, false, Ok, IfOk, IfErr, IsOkAnd, OnOk};
 ghost use Rattle.sqlval.specs.Faults.{IsOrMemory};
 ghost use Rattle.sql_syntax.specs.declared.create.Create.{Create as Made};
 ghost use Rattle.sql_syntax.specs.declared.create.IndexDefinition.{IndexDefinition as Defined};
 ghost use Rattle.sql_syntax.specs.declared.create.NewObject.TheVariants as new;
 ghost use Rattle.sql_syntax.specs.declared.statement.Statement.TheVariants as parsed;
-ghost use Rattle.sql_grammar.specs.Statements.{is_statement_within};
-ghost use Rattle.sql_grammar.specs.Texts.{IsStatementText};
 ghost use Rattle.catalog.specs.Listed.{is_name_of, table_named, tables_of};
 ghost use Rattle.catalog.specs.NewIndexes as listed;
 ghost use Rattle.catalog.specs.declared.tables.Index.{Index as Listed};
@@ -15,9 +13,10 @@ ghost use Rattle.catalog.specs.declared.tables.Table.{Table as Owned};
 ghost use Rattle.query_names.specs.Bound.{AreOnce};
 ghost use Rattle.query_bind.specs.Indexed.{IsIndexOn};
 ghost use Rattle.db_pages.specs.Schema as told;
-ghost use Rattle.db_load.specs.Loading.{IsOfIndexRow, IsSchemaFault, TellsIndex};
+ghost use Rattle.db_load.specs.Loading.{IsOfIndexRow, IsSchemaFault, IsTextOf, TellsIndex, TellsKeyIndex};
 ghost use Rattle.db_load.specs.Reading.{AreSound, CanGrow, FindsParts, GrowsBy, IsGrown, ReadsTold};
 
+use crate::automatic::grown_by_key;
 use crate::schema::{SchemaRow, created_by, damaged, outside, statement_of};
 use catalog::{Catalog, Index, Table, with_index};
 use query_bind::{BoundIndex, bind_index};
@@ -88,10 +87,8 @@ fn grown(alloc: Global, catalog: &Catalog, row: &SchemaRow<'_>, statement: &Stat
     ensures tells { (table : Owned) (index : Listed) (tells : TellsIndex table index row.now) (made : Made)
         → statement.now ≡ parsed.Create made → made.object ≡ new.Index tells.definition
         → CanGrow (tables_of catalog.now) table index
-        → IsOrMemory (IsGrown (tables_of catalog.now) tells.definition.table table index) result }
-    ensures found { IsStatementText row.now.sql.now statement.now
-        × (is_statement_within statement.now ≡ true)
-        × (length row.now.sql.now ≤ 65536) → AreOnce (tables_of catalog.now)
+        → IsOrMemory (IsGrown (tables_of catalog.now) table index) result }
+    ensures found { IsTextOf row.now statement.now → AreOnce (tables_of catalog.now)
         → IfOk result (GrowsBy (tables_of catalog.now) row.now) }
     ensures not_disk { IfErr result (λ fault. IsSchemaFault fault) }
 {
@@ -103,31 +100,49 @@ fn grown(alloc: Global, catalog: &Catalog, row: &SchemaRow<'_>, statement: &Stat
         name,
         columns: bound.columns,
         is_unique: definition.is_unique,
+        is_automatic: false,
         root: row.root,
         rowid: row.rowid,
     };
     with_index(alloc, bound.table, index)
 }
 
-/// A copy of the table on which a row tells an index, with that index after its others.
-fn grown_by(alloc: Global, catalog: &Catalog, row: &SchemaRow<'_>) -> R<Table>
-    ensures tells { (table : Owned) (index : Listed) (tells : TellsIndex table index row.now)
+/// A copy of the table on which a row with a text tells an index, with that index after its others.
+fn grown_by_text(alloc: Global, catalog: &Catalog, row: &SchemaRow<'_>) -> R<Table>
+    ensures tells { (table : Owned) (index : Listed) → TellsIndex table index row.now
         → CanGrow (tables_of catalog.now) table index
-        → IsOrMemory (IsGrown (tables_of catalog.now) tells.definition.table table index) result }
+        → IsOrMemory (IsGrown (tables_of catalog.now) table index) result }
     ensures found { AreOnce (tables_of catalog.now)
         → IfOk result (GrowsBy (tables_of catalog.now) row.now) }
     ensures not_disk { IfErr result (λ fault. IsSchemaFault fault) }
 {
-    let statement = statement_of(alloc, row.sql)?;
+    let statement = statement_of(alloc, row)?;
     let table = grown(alloc, catalog, row, &statement);
     release(statement);
     table
 }
 
+/// A copy of the table on which a row tells an index, with that index after its others.
+fn grown_by(alloc: Global, catalog: &Catalog, row: &SchemaRow<'_>) -> R<Table>
+    ensures tells { (table : Owned) (index : Listed)
+        → TellsIndex table index row.now ⊎ TellsKeyIndex table index row.now
+        → CanGrow (tables_of catalog.now) table index
+        → IsOrMemory (IsGrown (tables_of catalog.now) table index) result }
+    ensures found { AreOnce (tables_of catalog.now)
+        → IfOk result (GrowsBy (tables_of catalog.now) row.now) }
+    ensures not_disk { IfErr result (λ fault. IsSchemaFault fault) }
+{
+    match row.sql {
+        Some(_) => grown_by_text(alloc, catalog, row),
+        None => grown_by_key(alloc, catalog, row),
+    }
+}
+
 /// Adds the index that a row tells to its table, after the others.
 pub(crate) fn add_index(alloc: Global, catalog: &mut Catalog, row: &SchemaRow<'_>) -> R<()>
     // Where a row tells an index of a new name of a listed table, it is listed, unless memory runs out.
-    ensures tells { (table : Owned) (index : Listed) → TellsIndex table index row.now
+    ensures tells { (table : Owned) (index : Listed)
+        → TellsIndex table index row.now ⊎ TellsKeyIndex table index row.now
         → ReadsTold false (told.IndexTold table index) (tables_of catalog.old) (tables_of catalog.new) result }
     // What is listed is the index that the row tells.
     ensures found { row.now.is_table ≡ false → AreSound (tables_of catalog.old)

@@ -2,6 +2,7 @@
 #![tactic(auto)]
 
 mod adding;
+mod automatic;
 mod first;
 mod index_rows;
 mod loading;

@@ -1,26 +1,27 @@
 //! The rows of the schema table, and the tables that they tell.
 
-ghost use Rattle.std.specs.Prelude.{◌≡◌, ◌<◌, ◌≤◌, ◌++◌, ◌∷◌, ℕ, Bool, List, [], Ok, IfOk, IfErr, IsOkAnd, OnOk, true, false, pos, length, map};
+ghost use Rattle.std.specs.Prelude.{◌≡◌, ◌<◌, ◌≤◌, ◌++◌, ◌∷◌, ℕ, Bool, List, [], Option, Some, Ok, IfOk, IfErr, IsOkAnd, OnOk, true, false, pos, map, option_map};
 ghost use Rattle.sqlval.specs.Fields.{value_of};
 ghost use Rattle.sqlval.specs.declared.value.Value.TheVariants as value;
 ghost use Rattle.sql_syntax.specs.declared.create.NewObject.TheVariants as new;
 ghost use Rattle.sql_syntax.specs.declared.statement.Statement.{Statement as Parsed};
 ghost use Rattle.sql_syntax.specs.declared.statement.Statement.TheVariants as parsed;
-ghost use Rattle.sql_grammar.specs.Statements.{is_statement_within};
-ghost use Rattle.sql_grammar.specs.Texts.{IsStatementText};
 ghost use Rattle.sql_syntax.specs.declared.create.Create.{Create as Made};
 ghost use Rattle.sqlval.specs.Faults.{IsOrMemory};
-ghost use Rattle.catalog.specs.Listed.{is_name_of, tables_of};
+ghost use Rattle.catalog.specs.Listed.{is_name_of, key_columns, tables_of};
 ghost use Rattle.query_terms.specs.Terms.{Term};
+ghost use Rattle.query_names.specs.Bound.{is_twice_named};
 ghost use Rattle.query_names.specs.Checked.{good};
-ghost use Rattle.query_names.specs.Creating.{checks_known, defined, described, has_doubled};
+ghost use Rattle.query_names.specs.Creating.{checks_known, defined, described, has_doubled, table_keys_known};
+ghost use Rattle.db_files.specs.Schema.{sql_value};
 ghost use Rattle.db_pages.specs.Schema.{schema_row};
 ghost use Rattle.db_pages.specs.Schema as told;
-ghost use Rattle.db_load.specs.Loading.{AreRowValues, HasParts, IsOfRow, IsSchemaFault, TellsTable, bare, kind_text};
+ghost use Rattle.db_load.specs.Loading as loading;
+ghost use Rattle.db_load.specs.Loading.{AreRowValues, HasParts, IsOfRow, IsSchemaFault, IsTextOf, TellsTable, bare, kind_text};
 ghost use Rattle.db_load.specs.Reading.{AreSound, FindsParts, ReadsTold};
 
-use catalog::{Catalog, Checks, Column, Table, is_reserved};
-use query_names::{bind_checks, bind_columns, has_no_keys};
+use catalog::{Catalog, Checks, Column, IndexColumn, Table, is_reserved};
+use query_names::{bind_checks, bind_columns, bind_keys, has_rowid_key};
 use record::Record;
 use sql_parser::{parse, release};
 use sql_syntax::{Create, NewObject, Statement, TableDefinition};
@@ -36,7 +37,8 @@ pub(crate) struct SchemaRow<'a> {
     pub name: &'a str,
     pub table_name: &'a str,
     pub root: u32,
-    pub sql: &'a str,
+    /// None of an automatic index.
+    pub sql: Option<&'a str>,
 }
 
 /// The refusal of a schema row that breaks the format.
@@ -86,17 +88,30 @@ fn text_of<'a>(field: Field<'a>) -> R<&'a str>
     }
 }
 
-/// The text of a CREATE, in a row's field.
-fn sql_of<'a>(field: Field<'a>) -> R<&'a str>
-    ensures tells { (text : List ℕ) → value_of field.entry ≡ value.Text text
-        → IsOkAnd result (λ found. found.now ≡ text) }
-    ensures found { IfOk result (λ text. value_of field.entry ≡ value.Text text.now) }
+/// The text of a CREATE in a row's field, or none.
+fn sql_of<'a>(field: Field<'a>) -> R<Option<&'a str>>
+    ensures tells { (sql : Option (List ℕ)) → value_of field.entry ≡ sql_value sql
+        → IsOkAnd result (λ found. option_map (λ text. text.now) found ≡ sql) }
+    ensures found { IfOk result (λ sql. value_of field.entry ≡ sql_value (option_map (λ text. text.now) sql)) }
     ensures not_disk { IfErr result (λ fault. IsSchemaFault fault) }
 {
     match field {
-        Field::Text(text) => Ok(text),
-        Field::Null => Err(Fault::Unsupported(Feature::SchemaObject)),
+        Field::Text(text) => Ok(Some(text)),
+        Field::Null => Ok(None),
         _ => Err(damaged()),
+    }
+}
+
+/// The text of a row, which a table and an index that isn't automatic has.
+fn text_in<'a>(row: &SchemaRow<'a>) -> R<&'a str>
+    ensures tells { (text : List ℕ) → loading.text_of row.now ≡ Some text
+        → IsOkAnd result (λ found. found.now ≡ text) }
+    ensures found { IfOk result (λ text. loading.text_of row.now ≡ Some text.now) }
+    ensures not_disk { IfErr result (λ fault. IsSchemaFault fault) }
+{
+    match row.sql {
+        Some(text) => Ok(text),
+        None => Err(damaged()),
     }
 }
 
@@ -119,7 +134,7 @@ fn root_of(field: Field<'_>, size: u32) -> R<u32>
 
 /// The parts of a row of this rowid, in a database of `size` pages.
 pub(crate) fn row_of<'a>(rowid: i64, row: &Record<'a>, size: u32) -> R<SchemaRow<'a>>
-    ensures tells { (is : Bool) (name table_name : List ℕ) (root : ℕ) (sql : List ℕ)
+    ensures tells { (is : Bool) (name table_name : List ℕ) (root : ℕ) (sql : Option (List ℕ))
         → row.now ≡ schema_row (kind_text is) name table_name root sql → 1 < root → root ≤ size
         → IsOkAnd result (HasParts rowid is name table_name root sql) }
     ensures found { IfOk result (λ parts. AreRowValues size parts row.now × (parts.rowid ≡ rowid)) }
@@ -139,16 +154,13 @@ pub(crate) fn row_of<'a>(rowid: i64, row: &Record<'a>, size: u32) -> R<SchemaRow
 }
 
 /// The statement that the text of a row is.
-pub(crate) fn statement_of(alloc: Global, sql: &str) -> R<Statement>
-    ensures tells { (statement : Parsed) → IsStatementText sql.now statement
-        → is_statement_within statement ≡ true
-        → length sql.now ≤ 65536 → IsOrMemory (λ found. found ≡ statement) result }
-    ensures found { IfOk result (λ statement. IsStatementText sql.now statement
-        × (is_statement_within statement ≡ true)
-        × (length sql.now ≤ 65536)) }
+pub(crate) fn statement_of(alloc: Global, row: &SchemaRow<'_>) -> R<Statement>
+    ensures tells { (statement : Parsed) → IsTextOf row.now statement
+        → IsOrMemory (λ found. found ≡ statement) result }
+    ensures found { IfOk result (λ statement. IsTextOf row.now statement) }
     ensures not_disk { IfErr result (λ fault. IsSchemaFault fault) }
 {
-    match parse(alloc, sql) {
+    match parse(alloc, text_in(row)?) {
         Ok(statement) => Ok(statement),
         Err(fault) => Err(outside(fault)),
     }
@@ -221,13 +233,32 @@ fn checks_in(alloc: Global, definition: &TableDefinition, columns: &[Column]) ->
     }
 }
 
+/// The columns of the indexes that a definition's keys ask for, over these columns.
+fn keys_in(
+    alloc: Global,
+    definition: &TableDefinition,
+    columns: &[Column],
+) -> R<Many<Many<IndexColumn>>>
+    ensures tells { (keys : List (List IndexColumn)) → is_twice_named columns.now ≡ false
+        → table_keys_known definition.now columns.now ≡ good (map key_columns keys)
+        → IsOrMemory (λ found. found ≡ keys) result }
+    ensures found { is_twice_named columns.now ≡ false
+        → IfOk result (λ keys. table_keys_known definition.now columns.now ≡ good (map key_columns keys)) }
+    ensures not_disk { IfErr result (λ fault. IsSchemaFault fault) }
+{
+    match bind_keys(alloc, definition, columns) {
+        Ok(keys) => Ok(keys),
+        Err(fault) => Err(outside(fault)),
+    }
+}
+
 /// Checks that the definition is supported and has the row's names, and that they may be given.
 fn is_of_row(definition: &TableDefinition, row: &SchemaRow<'_>) -> R<()>
     ensures tells { IsOfRow row.now definition.now → result ≡ Ok tt }
     ensures found { OnOk result (IsOfRow row.now definition.now) }
     ensures not_disk { IfErr result (λ fault. IsSchemaFault fault) }
 {
-    if !has_no_keys(definition) {
+    if has_rowid_key(definition) {
         return Err(Fault::Unsupported(Feature::StatementForm));
     }
     if !definition.name.is_same(row.name) {
@@ -247,9 +278,7 @@ fn table_made(alloc: Global, row: &SchemaRow<'_>, statement: &Statement) -> R<Ta
     ensures tells { (table : Table) (tells : TellsTable table row.now) (made : Made)
         → statement.now ≡ parsed.Create made → made.object ≡ new.Table tells.definition
         → IsOrMemory (λ found. found ≡ bare table) result }
-    ensures found { IsStatementText row.now.sql.now statement.now
-        × (is_statement_within statement.now ≡ true)
-        × (length row.now.sql.now ≤ 65536)
+    ensures found { IsTextOf row.now statement.now
         → IfOk result (λ table. TellsTable table row.now × (table.indexes ≡ [])) }
     ensures not_disk { IfErr result (λ fault. IsSchemaFault fault) }
 {
@@ -257,11 +286,13 @@ fn table_made(alloc: Global, row: &SchemaRow<'_>, statement: &Statement) -> R<Ta
     is_of_row(definition, row)?;
     let columns = columns_in(alloc, definition)?;
     let checks = checks_in(alloc, definition, columns.as_slice())?;
+    let keys = keys_in(alloc, definition, columns.as_slice())?;
     let name = definition.name.copy(alloc)?;
     Ok(Table {
         name,
         columns,
         checks,
+        keys,
         indexes: Many::new(alloc),
         root: row.root,
         rowid: row.rowid,
@@ -275,7 +306,7 @@ fn table_of(alloc: Global, row: &SchemaRow<'_>) -> R<Table>
     ensures found { IfOk result (λ table. TellsTable table row.now × (table.indexes ≡ [])) }
     ensures not_disk { IfErr result (λ fault. IsSchemaFault fault) }
 {
-    let statement = statement_of(alloc, row.sql)?;
+    let statement = statement_of(alloc, row)?;
     let table = table_made(alloc, row, &statement);
     release(statement);
     table

@@ -7,6 +7,7 @@ ghost use Rattle.db_load.specs.Loading.{IsSchemaFault};
 ghost use Rattle.db_load.specs.Reading.{Finds, FindsRows, LoadsNext, LoadsRows, LoadsTree, TellsTree};
 
 use crate::adding::add_row;
+use crate::automatic::check_keys;
 use catalog::Catalog;
 use pages::Pages;
 use record::bytes_determine_values;
@@ -56,7 +57,7 @@ fn add_rows<P: Pages>(
     Ok(())
 }
 
-/// The tables that the rows of the schema table tell, with their indexes, in a database of `size` pages. (As `add_rows`.)
+/// The tables that the rows of the schema table tell, with their indexes, in a database of `size` pages. (As `add_rows` and `check_keys`.)
 pub fn load_schema<P: Pages>(alloc: Global, pages: &mut P, size: u32) -> R<Catalog>
     ensures loaded { IsTrue (P.Pages.tells (P.Pages.below pages.old))
         → LoadsTree (P.Pages.map pages.old) (P.Pages.limits (P.Pages.below pages.old)).page size result }
@@ -68,5 +69,6 @@ pub fn load_schema<P: Pages>(alloc: Global, pages: &mut P, size: u32) -> R<Catal
     let mut catalog = Catalog::empty(alloc);
     add_rows(alloc, pages, &mut catalog, size, true)?;
     add_rows(alloc, pages, &mut catalog, size, false)?;
+    check_keys(catalog.tables())?;
     Ok(catalog)
 }

@@ -24,6 +24,13 @@ by_rows P Q R S T each (x ∷ xs) (y ∷ ys) [] one other left right = absurd on
 by_rows P Q R S T each (x ∷ xs) (y ∷ ys) (row ∷ rows) one other left right =
     (each x y row one.0 other.0 left.0 right.0, by_rows P Q R S T each xs ys rows one.1 other.1 left.1 right.1)
 
+-- what follows for each pair
+pub each_pair : {A B : Type 0} (P Q : A → B → Type 0) → ((x : A) (y : B) → P x y → Q x y) → (xs : List A) (ys : List B) → Pairwise P xs ys → Pairwise Q xs ys
+each_pair P Q so [] [] each = tt
+each_pair P Q so [] (y ∷ ys) each = absurd each
+each_pair P Q so (x ∷ xs) [] each = absurd each
+each_pair P Q so (x ∷ xs) (y ∷ ys) each = (so x y each.0, each_pair P Q so xs ys each.1)
+
 -- what each of a list has beside it
 pub beside : {A B : Type 0} (P : A → B → Type 0) (xs : List A) (ys : List B) → Pairwise P xs ys → AllByRecursion (λ x. (y : B) × P x y) xs
 beside P [] ys each = tt

@@ -121,6 +121,7 @@ module _ (old new : PageMap) (header next : Header) (is : IsReheaded old new hea
         rows_at = held.rows_at;
         of_tables = held.of_tables;
         once = held.once;
+        keys = held.keys;
         header = next;
         header_is = is.next_is;
         sized = is.sized ∙ (ap (λ (h : Header). h.page_size) (sym same) ∙ held.sized);

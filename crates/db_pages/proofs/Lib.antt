@@ -1,10 +1,13 @@
 pub mod AlikeTold
+pub mod AutomaticObjects
 pub mod Headings
+pub mod KeptObjects
 pub mod NamedObjects
 pub mod OneDatabase
 pub mod ReorderedPairs
 pub mod ReorderedSorted
 pub mod Reordering
+pub mod SortedObjects
 pub mod Standing
 pub mod StandingRows
 pub mod StandingTexts
@@ -22,4 +25,6 @@ pub mod StoredShares
 pub mod StoredTables
 pub mod StoredTreePages
 pub mod StoredTrees
+pub mod ToldDues
 pub mod ToldObjects
+pub mod ToldTables

@@ -133,14 +133,14 @@ put_placed (e ∷ es) name o none = by_place (put_placed es name o) (name_order 
     by_place later Greater h = ap (λ (ns : List Name). e.0 ∷ ns) (later h)
 
 -- each object under its name
-abbrev built : List (Name × Object) → Database
+abbrev pub built : List (Name × Object) → Database
 built [] = []
 built (o ∷ os) = with_object (built os) o.0 o.1
 
 same_test : (a b : Name) → eq_by_cmp name_order a b ≡ bytes_eq b a
 same_test a b = (eq_by_cmp_equiv nat_list_cmp_total).symm a b ∙ is_eq-slice_cmp b a
 
-built_finds : (os : List (Name × Object)) (name : Name) → object (built os) name ≡ named_among name os
+pub built_finds : (os : List (Name × Object)) (name : Name) → object (built os) name ≡ named_among name os
 built_finds [] name = refl
 built_finds (o ∷ os) name =
     find-put name_order nat_list_cmp_total (folded name) (folded o.0) o.1 (built os)
@@ -148,11 +148,11 @@ built_finds (o ∷ os) name =
     ∙ ap (cond (is_same_name o.0 name) (Some o.1)) (built_finds os name)
     ∙ sym (one_among name o os)
 
-built_named : (os : List (Name × Object)) → IsNamed (built os)
+pub built_named : (os : List (Name × Object)) → IsNamed (built os)
 built_named [] = record { rising = refl; each_folded = tt }
 built_named (o ∷ os) = keeps_named (built os) o.0 o.1 (built_named os)
 
-none_among : (name : Name) (os : List (Name × Object)) → list_any (is_same_name name) (own_names os) ≡ false → named_among name os ≡ None
+pub none_among : (name : Name) (os : List (Name × Object)) → list_any (is_same_name name) (own_names os) ≡ false → named_among name os ≡ None
 none_among name [] none = refl
 none_among name (o ∷ os) none =
     one_among name o os ∙ ap (λ b. cond b (Some o.1) (named_among name os)) (no_other name o os none)

@@ -1,10 +1,11 @@
 -- Pages store one database at most: each row of the schema table is one statement, and says one root.
-use Rattle.std.proofs.Common.{◌≡◌, ◌∙◌, refl, sym, ap, subst, ℕ, List, [], ◌∷◌, length, map, Some, None}
+use Rattle.std.proofs.Common.{◌≡◌, ◌∙◌, inl, inr, refl, sym, ap, ap₂, subst, ℕ, List, [], ◌∷◌, length, map, Option, Some, None}
 use Rattle.std.specs.Prelude.{codes}
 use Rattle.std.specs.FinMap.Entries.{find}
 use Rattle.std.specs.List.{AllByRecursion}
 use Rattle.sqlval.specs.Names.{folded}
-use Rattle.record.specs.Record.{DetermineValues}
+use Rattle.sqlval.specs.declared.collation.Collation.{Collation}
+use Rattle.record.specs.Record.{DetermineValues, IsRecord}
 use Rattle.tree_leaf.specs.Leaf.{Entry}
 use Rattle.pages.specs.Map.{PageMap}
 use Rattle.tree_page.specs.Cells.{Pairwise}
@@ -19,27 +20,31 @@ use Rattle.sql_syntax.specs.declared.statement.Statement.{Statement}
 use Rattle.sql_syntax.specs.declared.statement.Statement.TheVariants as statement
 use Rattle.sql_grammar.specs.Texts.{IsStatementText}
 use Rattle.catalog.specs.Database as database
-use Rattle.catalog.specs.Database.{ATable, Database, Name, TableColumn, name_order, object}
-use Rattle.catalog.specs.Listed.{as_column, with_rows}
+use Rattle.catalog.specs.Database.{ATable, AnIndex, Database, Name, TableColumn, name_order, object}
+use Rattle.catalog.specs.Listed.{as_column, as_index, named_among, with_rows}
 use Rattle.catalog.specs.declared.tables.Column.{Column}
 use Rattle.catalog.specs.declared.tables.Index.{Index}
 use Rattle.catalog.specs.declared.tables.Table.{Table}
 use Rattle.catalog.proofs.NamedDatabases.{one_database}
 use Rattle.query_names.specs.Checked.{Checked, meant}
 use Rattle.query_terms.specs.Terms.{Term}
-use Rattle.query_names.specs.Creating.{checks_known, defined, described}
-use Rattle.query_names.specs.Schema.{index_made}
+use Rattle.query_names.specs.Creating.{checks_known, defined, described, table_keys_known}
+use Rattle.query_names.specs.Schema.{automatic, index_made}
 use Rattle.row_scan.specs.Rows.{IsRow, TableRow}
 use Rattle.row_scan.proofs.HeldRows.{same_rows}
 use Rattle.db_layout.specs.Layout.{HoldsUnder, IsTree, Owner}
 use Rattle.db_layout.specs.Trees.{IsRowsTree}
-use Rattle.db_pages.specs.Schema.{IndexTold, IsCreateOf, IsIndexRow, IsTableRow, TableTold, Tells, Told, schema_row}
+use Rattle.db_pages.specs.Schema.{IndexTold, IsCreateOf, IsIndexRow, IsKeyRow, IsTableRow, TableTold, Tells, Told, due_objects, schema_row}
 use Rattle.db_pages.specs.Standing.{StoredOnce}
 use Rattle.db_pages.specs.Stored.{Stores}
-use Rattle.db_pages.proofs.AlikeTold.{AreAlike, HaveAlikeTables, beside, by_rows, same_found, table_found}
+use Rattle.db_pages.proofs.AlikeTold.{AreAlike, HaveAlikeTables, beside, by_rows, each_pair, same_found, table_found}
+use Rattle.db_pages.proofs.KeptObjects.{named_alike}
 use Rattle.db_pages.proofs.StandingTexts.{index_is}
 use Rattle.db_pages.proofs.StandingTrees.{IsTreeTold, in_order_told}
+use Rattle.db_pages.proofs.StoredNames.{same_some}
+use Rattle.db_pages.proofs.ToldDues.{told_due}
 use Rattle.db_pages.proofs.ToldObjects.{IsKept, told_finds, told_kept}
+use Rattle.db_pages.proofs.ToldTables.{HaveAlikeDues, IsDueAmong, due_alike, due_named, same_dues}
 
 -- a text is one statement at most
 abbrev pub OneText : Type 0
@@ -47,11 +52,20 @@ OneText = (text : List ℕ) (a b : Statement) → IsStatementText text a → IsS
 
 -- ---- the parts of a row
 
-root_is : (k l : List ℕ) (n m tn tm : Name) (r s : ℕ) (sql text : List ℕ) → schema_row k n tn r sql ≡ schema_row l m tm s text → r ≡ s
+root_is : (k l : List ℕ) (n m tn tm : Name) (r s : ℕ) (sql text : Option (List ℕ)) → schema_row k n tn r sql ≡ schema_row l m tm s text → r ≡ s
 root_is k l n m tn tm r s sql text h = cc
 
-text_is : (k l : List ℕ) (n m tn tm : Name) (r s : ℕ) (sql text : List ℕ) → schema_row k n tn r sql ≡ schema_row l m tm s text → sql ≡ text
+row_name_is : (k l : List ℕ) (n m tn tm : Name) (r s : ℕ) (sql text : Option (List ℕ)) → schema_row k n tn r sql ≡ schema_row l m tm s text → n ≡ m
+row_name_is k l n m tn tm r s sql text h = cc
+
+row_table_is : (k l : List ℕ) (n m tn tm : Name) (r s : ℕ) (sql text : Option (List ℕ)) → schema_row k n tn r sql ≡ schema_row l m tm s text → tn ≡ tm
+row_table_is k l n m tn tm r s sql text h = cc
+
+text_is : (k l : List ℕ) (n m tn tm : Name) (r s : ℕ) (sql text : List ℕ) → schema_row k n tn r (Some sql) ≡ schema_row l m tm s (Some text) → sql ≡ text
 text_is k l n m tn tm r s sql text h = cc
+
+no_text : {A : Type 0} (k l : List ℕ) (n m tn tm : Name) (r s : ℕ) (sql : List ℕ) → schema_row k n tn r (Some sql) ≡ schema_row l m tm s None → A
+no_text k l n m tn tm r s sql h = absurd cc
 
 made_is : (c d : Create) → statement.Create c ≡ statement.Create d → c ≡ d
 made_is c d h = cc
@@ -114,7 +128,7 @@ module _ (trees : OneTree) (texts : OneText) (values : DetermineValues) where
     -- ---- two tables of one row
 
     module _ (t u : Table) (row : Entry) (first : IsTableRow count t row) (second : IsTableRow count u row) where
-      row_is : schema_row (codes "table") first.row_is.name first.row_is.table_name t.root first.sql ≡ schema_row (codes "table") second.row_is.name second.row_is.table_name u.root second.sql
+      row_is : schema_row (codes "table") first.row_is.name first.row_is.table_name t.root (Some first.sql) ≡ schema_row (codes "table") second.row_is.name second.row_is.table_name u.root (Some second.sql)
       row_is = values row.payload _ _ first.row_is.row_is second.row_is.row_is
 
       one_definition : first.definition ≡ second.definition
@@ -123,7 +137,7 @@ module _ (trees : OneTree) (texts : OneText) (values : DetermineValues) where
           first.creates.0 second.creates.0)
 
       one_root : t.root ≡ u.root
-      one_root = root_is (codes "table") (codes "table") first.row_is.name second.row_is.name first.row_is.table_name second.row_is.table_name t.root u.root first.sql second.sql row_is
+      one_root = root_is (codes "table") (codes "table") first.row_is.name second.row_is.name first.row_is.table_name second.row_is.table_name t.root u.root (Some first.sql) (Some second.sql) row_is
 
       one_name : t.name ≡ u.name
       one_name = first.makes.name_is ∙ ap (λ (d : TableDefinition). d.name) one_definition ∙ sym second.makes.name_is
@@ -135,6 +149,12 @@ module _ (trees : OneTree) (texts : OneText) (values : DetermineValues) where
       one_checks = ap meant (sym first.makes.checks
           ∙ (ap (λ (d : TableDefinition). checks_known d t.columns) one_definition ∙ ap (checks_known second.definition) one_columns)
           ∙ second.makes.checks)
+
+      -- their keys ask for the same indexes
+      one_due : due_objects t ≡ due_objects u
+      one_due = ap₂ (λ (n : Name) (keys : List (List (ℕ × Collation))). automatic n 1 keys) one_name (ap meant (sym first.makes.keys
+          ∙ (ap (λ (d : TableDefinition). table_keys_known d t.columns) one_definition ∙ ap (table_keys_known second.definition) one_columns)
+          ∙ second.makes.keys))
 
       rows_tree : (v : Table) (rows : List TableRow) (o : Owner) (is : IsRowsTree v rows o) → IsTree pages size o → IsTableTree pages size v.root is.entries o.used
       rows_tree v rows o is tree = subst (λ (root : ℕ). IsTableTree pages size root is.entries o.used) is.root_is (subst (HoldsUnder pages size o.root o.used) is.content_is tree)
@@ -153,8 +173,59 @@ module _ (trees : OneTree) (texts : OneText) (values : DetermineValues) where
 
     -- ---- two indexes of one row
 
+    -- the names that the row of an index has
+    record HasNames (t : Table) (i : Index) (row : Entry) : Type 0 where
+      name : Name
+      table_name : Name
+      sql : Option (List ℕ)
+      name_is : folded name ≡ folded i.name
+      table_name_is : folded table_name ≡ folded t.name
+      row_is : IsRecord row.payload (schema_row (codes "index") name table_name i.root sql)
+
+    has_names : (t : Table) (i : Index) (row : Entry) → Tells count (IndexTold t i) row → HasNames t i row
+    has_names t i row (inl is) = record {
+      name = is.row_is.name;
+      table_name = is.row_is.table_name;
+      sql = Some is.sql;
+      name_is = is.row_is.name_is ∙ sym (ap folded is.makes.name_is);
+      table_name_is = is.row_is.table_name_is ∙ is.makes.on;
+      row_is = is.row_is.row_is;
+    }
+    has_names t i row (inr is) = record {
+      name = is.row_is.name;
+      table_name = is.row_is.table_name;
+      sql = None;
+      name_is = is.row_is.name_is;
+      table_name_is = is.row_is.table_name_is;
+      row_is = is.row_is.row_is;
+    }
+
+    module _ (t u : Table) (i j : Index) (row : Entry) (first : Tells count (IndexTold t i) row) (second : Tells count (IndexTold u j) row) where
+      first_has : HasNames t i row
+      first_has = has_names t i row first
+
+      second_has : HasNames u j row
+      second_has = has_names u j row second
+
+      names_are : schema_row (codes "index") first_has.name first_has.table_name i.root first_has.sql ≡ schema_row (codes "index") second_has.name second_has.table_name j.root second_has.sql
+      names_are = values row.payload _ _ first_has.row_is second_has.row_is
+
+      index_names : folded i.name ≡ folded j.name
+      index_names =
+          sym first_has.name_is
+          ∙ (ap folded (row_name_is (codes "index") (codes "index") first_has.name second_has.name first_has.table_name second_has.table_name i.root j.root first_has.sql second_has.sql names_are) ∙ second_has.name_is)
+
+      on_names : folded t.name ≡ folded u.name
+      on_names =
+          sym first_has.table_name_is
+          ∙ (ap folded (row_table_is (codes "index") (codes "index") first_has.name second_has.name first_has.table_name second_has.table_name i.root j.root first_has.sql second_has.sql names_are) ∙ second_has.table_name_is)
+
+    -- a table of the one is a table of the other
+    abbrev HasSameTables : Type 0
+    HasSameTables = (d : IndexDefinition) → (table : database.Table) → object a d.table ≡ Some (ATable table) → object b d.table ≡ Some (ATable table)
+
     module _ (t u : Table) (i j : Index) (row : Entry) (first : IsIndexRow count t i row) (second : IsIndexRow count u j row) where
-      index_row_is : schema_row (codes "index") first.row_is.name first.row_is.table_name i.root first.sql ≡ schema_row (codes "index") second.row_is.name second.row_is.table_name j.root second.sql
+      index_row_is : schema_row (codes "index") first.row_is.name first.row_is.table_name i.root (Some first.sql) ≡ schema_row (codes "index") second.row_is.name second.row_is.table_name j.root (Some second.sql)
       index_row_is = values row.payload _ _ first.row_is.row_is second.row_is.row_is
 
       one_index : first.definition ≡ second.definition
@@ -162,45 +233,75 @@ module _ (trees : OneTree) (texts : OneText) (values : DetermineValues) where
           (text_is (codes "index") (codes "index") first.row_is.name second.row_is.name first.row_is.table_name second.row_is.table_name i.root j.root first.sql second.sql index_row_is)
           first.creates.0 second.creates.0)
 
-      index_names : folded i.name ≡ folded j.name
-      index_names = ap folded (first.makes.name_is ∙ ap (λ (d : IndexDefinition). d.name) one_index ∙ sym second.makes.name_is)
-
       -- on one table they are one
-      indexes_alike : ((d : IndexDefinition) → (table : database.Table) → object a d.table ≡ Some (ATable table) → object b d.table ≡ Some (ATable table))
-          → IsKept one.rows_at a (IndexTold t i) → IsKept other.rows_at b (IndexTold u j) → AreAlike one.rows_at other.rows_at (IndexTold t i) (IndexTold u j)
+      indexes_alike : HasSameTables → IsKept one.rows_at a (IndexTold t i) → IsKept other.rows_at b (IndexTold u j) → AreAlike one.rows_at other.rows_at (IndexTold t i) (IndexTold u j)
       indexes_alike tables mine its =
           let on_a : object a first.definition.table ≡ Some (ATable (with_rows t (one.rows_at t.root))) = ap (λ n. find name_order n a) first.makes.on ∙ mine.1 in
           let on_b : object b first.definition.table ≡ Some (ATable (with_rows t (one.rows_at t.root))) = tables first.definition (with_rows t (one.rows_at t.root)) on_a in
           let made_a = index_is a first.definition t i (one.rows_at t.root) first.makes mine.1 in
           let made_b = index_is b second.definition u j (other.rows_at u.root) second.makes its.1 in (
-            index_names,
+            index_names t u i j row (inl first) (inl second),
             ap meant (sym made_a ∙ ap (λ o. index_made o first.definition) (on_a ∙ sym on_b) ∙ ap (λ (d : IndexDefinition). index_made (object b d.table) d) one_index ∙ made_b),
           )
 
+    -- one has a text and the other has none
+    differ : {A : Type 0} (t u : Table) (i j : Index) (row : Entry) → IsIndexRow count t i row → IsKeyRow count u j row → A
+    differ t u i j row first second =
+        no_text (codes "index") (codes "index") first.row_is.name second.row_is.name first.row_is.table_name second.row_is.table_name i.root j.root first.sql
+        (values row.payload (schema_row (codes "index") first.row_is.name first.row_is.table_name i.root (Some first.sql))
+        (schema_row (codes "index") second.row_is.name second.row_is.table_name j.root None) first.row_is.row_is second.row_is.row_is)
+
+    -- two of one row without a text are what a key of one table asks for
+    keys_alike : (t u : Table) (i j : Index) (row : Entry) → IsKeyRow count t i row → IsKeyRow count u j row → ((name : Name) → due_named name one.tell.told ≡ due_named name other.tell.told)
+        → IsDueAmong one.tell.told (IndexTold t i) → IsDueAmong other.tell.told (IndexTold u j) → AreAlike one.rows_at other.rows_at (IndexTold t i) (IndexTold u j)
+    keys_alike t u i j row first second same mine its =
+        let names = index_names t u i j row (inr first) (inr second) in
+        let due : due_objects t ≡ due_objects u = same_some (due_objects t) (due_objects u)
+        (sym mine.0 ∙ (due_alike t.name u.name one.tell.told (on_names t u i j row (inr first) (inr second)) ∙ (same u.name ∙ its.0))) in (
+          names,
+          same_some (AnIndex (as_index t i)) (AnIndex (as_index u j))
+              (sym (mine.1 first.automatic) ∙ (ap (named_among i.name) due ∙ (named_alike i.name j.name (due_objects u) names ∙ its.1 second.automatic))),
+        )
+
     -- ---- a table and an index aren't told by one row
 
-    apart : {A : Type 0} (t u : Table) (j : Index) (row : Entry) → IsTableRow count t row → IsIndexRow count u j row → A
-    apart t u j row first second =
+    apart : {A : Type 0} (t u : Table) (j : Index) (row : Entry) → IsTableRow count t row → Tells count (IndexTold u j) row → A
+    apart t u j row first (inl second) =
         no_table_is_index first.definition second.definition (one_made first.sql second.sql (new.Table first.definition) (new.Index second.definition)
         (text_is (codes "table") (codes "index") first.row_is.name second.row_is.name first.row_is.table_name second.row_is.table_name t.root j.root first.sql second.sql
-        (values row.payload (schema_row (codes "table") first.row_is.name first.row_is.table_name t.root first.sql)
-        (schema_row (codes "index") second.row_is.name second.row_is.table_name j.root second.sql) first.row_is.row_is second.row_is.row_is))
+        (values row.payload (schema_row (codes "table") first.row_is.name first.row_is.table_name t.root (Some first.sql))
+        (schema_row (codes "index") second.row_is.name second.row_is.table_name j.root (Some second.sql)) first.row_is.row_is second.row_is.row_is))
         first.creates.0 second.creates.0)
+    apart t u j row first (inr second) =
+        no_text (codes "table") (codes "index") first.row_is.name second.row_is.name first.row_is.table_name second.row_is.table_name t.root j.root first.sql
+        (values row.payload (schema_row (codes "table") first.row_is.name first.row_is.table_name t.root (Some first.sql))
+        (schema_row (codes "index") second.row_is.name second.row_is.table_name j.root None) first.row_is.row_is second.row_is.row_is)
 
     -- ---- what one row tells in both
 
-    alike_first : (x y : Told) (row : Entry) → Tells count x row → Tells count y row → HasItsTree one.rows_at x → HasItsTree other.rows_at y → HaveAlikeTables one.rows_at other.rows_at x y
-    alike_first (TableTold t) (TableTold u) row first second mine its = tables_alike t u row first second mine its
+    alike_first : (x y : Told) (row : Entry) → Tells count x row → Tells count y row → HasItsTree one.rows_at x → HasItsTree other.rows_at y → HaveAlikeTables one.rows_at other.rows_at x y × HaveAlikeDues x y
+    alike_first (TableTold t) (TableTold u) row first second mine its =
+        let alike = tables_alike t u row first second mine its in (alike, (alike.0, one_due t u row first second))
     alike_first (TableTold t) (IndexTold u j) row first second mine its = apart t u j row first second
     alike_first (IndexTold t i) (TableTold u) row first second mine its = apart u t i row second first
-    alike_first (IndexTold t i) (IndexTold u j) row first second mine its = index_names t u i j row first second
+    alike_first (IndexTold t i) (IndexTold u j) row first second mine its = (index_names t u i j row first second, tt)
 
-    alike_then : ((d : IndexDefinition) → (table : database.Table) → object a d.table ≡ Some (ATable table) → object b d.table ≡ Some (ATable table)) → (x y : Told) (row : Entry) → Tells count x row → Tells count y row
-        → HasItsTree one.rows_at x × IsKept one.rows_at a x → HasItsTree other.rows_at y × IsKept other.rows_at b y → AreAlike one.rows_at other.rows_at x y
-    alike_then tables (TableTold t) (TableTold u) row first second mine its = tables_alike t u row first second mine.0 its.0
-    alike_then tables (TableTold t) (IndexTold u j) row first second mine its = apart t u j row first second
-    alike_then tables (IndexTold t i) (TableTold u) row first second mine its = apart u t i row second first
-    alike_then tables (IndexTold t i) (IndexTold u j) row first second mine its = indexes_alike t u i j row first second tables mine.1 its.1
+    -- what is known of each in the first and in the second
+    abbrev IsKnownHere : Told → Type 0
+    IsKnownHere x = HasItsTree one.rows_at x × IsKept one.rows_at a x × IsDueAmong one.tell.told x
+
+    abbrev IsKnownThere : Told → Type 0
+    IsKnownThere y = HasItsTree other.rows_at y × IsKept other.rows_at b y × IsDueAmong other.tell.told y
+
+    alike_then : HasSameTables → ((name : Name) → due_named name one.tell.told ≡ due_named name other.tell.told) → (x y : Told) (row : Entry) → Tells count x row → Tells count y row → IsKnownHere x → IsKnownThere y
+        → AreAlike one.rows_at other.rows_at x y
+    alike_then tables dues (TableTold t) (TableTold u) row first second mine its = tables_alike t u row first second mine.0 its.0
+    alike_then tables dues (TableTold t) (IndexTold u j) row first second mine its = apart t u j row first second
+    alike_then tables dues (IndexTold t i) (TableTold u) row first second mine its = apart u t i row second first
+    alike_then tables dues (IndexTold t i) (IndexTold u j) row (inl first) (inl second) mine its = indexes_alike t u i j row first second tables mine.1 its.1
+    alike_then tables dues (IndexTold t i) (IndexTold u j) row (inl first) (inr second) mine its = differ t u i j row first second
+    alike_then tables dues (IndexTold t i) (IndexTold u j) row (inr first) (inl second) mine its = differ u t j i row second first
+    alike_then tables dues (IndexTold t i) (IndexTold u j) row (inr first) (inr second) mine its = keys_alike t u i j row first second dues mine.2 its.2
 
     -- the schema table has one list of rows
     one_schema : one.schema ≡ other.schema
@@ -217,25 +318,33 @@ module _ (trees : OneTree) (texts : OneText) (values : DetermineValues) where
     its_trees = (let owners = in_order_told pages size us b other in
         beside (λ x o. IsTreeTold other.rows_at x o × IsTree pages size o) other.tell.told owners.0 owners.1)
 
-    firsts : Pairwise (HaveAlikeTables one.rows_at other.rows_at) one.tell.told other.tell.told
-    firsts = by_rows (Tells count) (Tells count) (HasItsTree one.rows_at) (HasItsTree other.rows_at) (HaveAlikeTables one.rows_at other.rows_at) alike_first
+    -- what each says without the others
+    firsts : Pairwise (λ x y. HaveAlikeTables one.rows_at other.rows_at x y × HaveAlikeDues x y) one.tell.told other.tell.told
+    firsts = by_rows (Tells count) (Tells count) (HasItsTree one.rows_at) (HasItsTree other.rows_at) (λ x y. HaveAlikeTables one.rows_at other.rows_at x y × HaveAlikeDues x y) alike_first
         one.tell.told other.tell.told other.schema tell_here other.tell.each my_trees its_trees
 
     -- a table of the one is a table of the other
-    same_table : (d : IndexDefinition) → (table : database.Table) → object a d.table ≡ Some (ATable table) → object b d.table ≡ Some (ATable table)
+    same_table : HasSameTables
     same_table d table found =
         told_finds other.rows_at us b other.of_tables other.tell.told other.tell.all d.table
-        ∙ table_found one.rows_at other.rows_at d.table table one.tell.told other.tell.told firsts (sym (told_finds one.rows_at ts a one.of_tables one.tell.told one.tell.all d.table) ∙ found)
+        ∙ table_found one.rows_at other.rows_at d.table table one.tell.told other.tell.told
+        (each_pair (λ x y. HaveAlikeTables one.rows_at other.rows_at x y × HaveAlikeDues x y) (HaveAlikeTables one.rows_at other.rows_at) (λ x y both. both.0) one.tell.told other.tell.told firsts)
+        (sym (told_finds one.rows_at ts a one.of_tables one.tell.told one.tell.all d.table) ∙ found)
 
-    all_and : {A : Type 0} (P Q : A → Type 0) (xs : List A) → AllByRecursion P xs → AllByRecursion Q xs → AllByRecursion (λ x. P x × Q x) xs
-    all_and P Q [] left right = tt
-    all_and P Q (x ∷ xs) left right = ((left.0, right.0), all_and P Q xs left.1 right.1)
+    -- and the keys of one ask for what those of the other ask for
+    one_dues : (name : Name) → due_named name one.tell.told ≡ due_named name other.tell.told
+    one_dues name = same_dues name one.tell.told other.tell.told
+        (each_pair (λ x y. HaveAlikeTables one.rows_at other.rows_at x y × HaveAlikeDues x y) HaveAlikeDues (λ x y both. both.1) one.tell.told other.tell.told firsts)
+
+    all_and : {A : Type 0} (P Q R : A → Type 0) (xs : List A) → AllByRecursion P xs → AllByRecursion Q xs → AllByRecursion R xs → AllByRecursion (λ x. P x × Q x × R x) xs
+    all_and P Q R [] ps qs rs = tt
+    all_and P Q R (x ∷ xs) ps qs rs = ((ps.0, qs.0, rs.0), all_and P Q R xs ps.1 qs.1 rs.1)
 
     all_alike : Pairwise (AreAlike one.rows_at other.rows_at) one.tell.told other.tell.told
-    all_alike = by_rows (Tells count) (Tells count) (λ x. HasItsTree one.rows_at x × IsKept one.rows_at a x) (λ y. HasItsTree other.rows_at y × IsKept other.rows_at b y)
-        (AreAlike one.rows_at other.rows_at) (alike_then same_table) one.tell.told other.tell.told other.schema tell_here other.tell.each
-        (all_and (HasItsTree one.rows_at) (IsKept one.rows_at a) one.tell.told my_trees (told_kept one.rows_at ts a one.of_tables one.tell.told one.tell.all))
-        (all_and (HasItsTree other.rows_at) (IsKept other.rows_at b) other.tell.told its_trees (told_kept other.rows_at us b other.of_tables other.tell.told other.tell.all))
+    all_alike = by_rows (Tells count) (Tells count) IsKnownHere IsKnownThere
+        (AreAlike one.rows_at other.rows_at) (alike_then same_table one_dues) one.tell.told other.tell.told other.schema tell_here other.tell.each
+        (all_and (HasItsTree one.rows_at) (IsKept one.rows_at a) (IsDueAmong one.tell.told) one.tell.told my_trees (told_kept one.rows_at ts a one.of_tables one.tell.told one.tell.all) (told_due pages size ts a one))
+        (all_and (HasItsTree other.rows_at) (IsKept other.rows_at b) (IsDueAmong other.tell.told) other.tell.told its_trees (told_kept other.rows_at us b other.of_tables other.tell.told other.tell.all) (told_due pages size us b other))
 
     pub same_database : a ≡ b
     same_database = one_database a b one.of_tables.named other.of_tables.named (λ name.

@@ -1,22 +1,36 @@
 -- Pages that store a database stand for it.
-use Rattle.std.proofs.Common.{ap, ◌∙◌, ℕ, List, length}
+use Rattle.std.proofs.Common.{◌≡◌, ap, ◌∙◌, ℕ, List, length, Some}
 use Rattle.std.specs.List.{AllByRecursion}
 use Rattle.sqlval.specs.Lists.{sorted}
 use Rattle.pages.specs.Map.{PageMap}
 use Rattle.catalog.specs.Database.{Database, name_order}
+use Rattle.catalog.specs.Listed.{table_named}
+use Rattle.catalog.specs.declared.tables.Index.{Index}
 use Rattle.catalog.specs.declared.tables.Table.{Table}
 use Rattle.catalog.proofs.NamedDatabases.{listed_in_order}
 use Rattle.db_files.specs.Stands.{HasSchema, StandsFor}
 use Rattle.db_pages.specs.Language.{supported_language}
+use Rattle.db_pages.specs.Schema.{HasKeyIndexes, IndexTold}
 use Rattle.db_pages.specs.Standing.{StoredStand}
 use Rattle.db_pages.specs.Stored.{IsCounted, Stores}
-use Rattle.db_pages.proofs.StandingRows.{rows_named, rows_read, rows_say, rows_told}
+use Rattle.db_pages.proofs.AutomaticObjects.{due_are, each_named}
+use Rattle.db_pages.proofs.StandingRows.{HasDueIn, rows_named, rows_read, rows_say, rows_told}
 use Rattle.db_pages.proofs.StandingTrees.{found_fit, in_order_told, is_freelist, is_headed, is_shared, told_trees, useds_of}
+use Rattle.db_pages.proofs.StoredApart.{all_both}
 use Rattle.db_pages.proofs.ToldObjects.{IsKept, told_kept, told_names}
+use Rattle.db_pages.proofs.ToldTables.{OfTable, each_of, told_each}
 
 module _ (pages : PageMap) (size : ℕ) (tables : List Table) (db : Database) (stored : Stores pages size tables db) where
   are_kept : AllByRecursion (IsKept stored.rows_at db) stored.tell.told
   are_kept = told_kept stored.rows_at tables db stored.of_tables stored.tell.told stored.tell.all
+
+  -- the database has what the keys of its tables ask for
+  are_due : AllByRecursion (HasDueIn db) stored.tell.told
+  are_due =
+      told_each (HasDueIn db) tables stored.tell.told stored.tell.all
+      (all_both HasKeyIndexes (λ (t : Table). table_named t.name tables ≡ Some t) (OfTable (HasDueIn db))
+      (λ t has found. (due_are stored.rows_at tables db stored.of_tables t found has, each_of (λ (i : Index). HasDueIn db (IndexTold t i)) (λ i. tt) t.indexes))
+      tables stored.keys (each_named stored.rows_at tables db stored.of_tables))
 
   has_schema : HasSchema supported_language size pages (rows_told (length pages) stored.tell.told stored.schema stored.tell.each) db stored.schema_used
   has_schema = record {
@@ -26,7 +40,7 @@ module _ (pages : PageMap) (size : ℕ) (tables : List Table) (db : Database) (s
     objects = record {
       names = ap (sorted name_order) (rows_named (length pages) stored.tell.told stored.schema stored.tell.each)
           ∙ told_names stored.rows_at tables db stored.of_tables stored.tell.told stored.tell.all;
-      each = rows_say stored.rows_at db stored.of_tables.only (length pages) stored.tell.told stored.schema stored.tell.each are_kept;
+      each = rows_say stored.rows_at db (length pages) stored.tell.told stored.schema stored.tell.each are_kept are_due;
     };
     in_order = listed_in_order stored.rows_at tables db stored.of_tables.named stored.of_tables.lists (λ name t found. found_fit stored.rows_at name t tables stored.held stored.each found);
   }

@@ -1,27 +1,35 @@
 -- The rows of page 1 are the rows of the schema table of the database that the told tables and indexes make.
-use Rattle.std.proofs.Common.{◌≡◌, ◌∙◌, inl, refl, sym, ap, ℕ, ℤ, true, List, [], ◌∷◌, map, codes, Some}
+use Rattle.std.proofs.Common.{◌≡◌, ◌∙◌, inl, inr, refl, sym, ap, subst, ℕ, ℤ, Bool, true, false, not, List, [], ◌∷◌, map, codes, Some, None}
+use Rattle.std.specs.Prelude.{⊤}
+use Rattle.std.proofs.lemmas.Bool.{false≢true}
 use Rattle.std.specs.FinMap.Entries.{find}
 use Rattle.std.specs.List.{AllByRecursion}
 use Rattle.tree_leaf.specs.Leaf.{Entry}
+use Rattle.sqlval.specs.Lists.{sorted}
 use Rattle.sqlval.specs.Names.{folded}
 use Rattle.sqlval.specs.declared.value.Value.{Value}
 use Rattle.tree_page.specs.Cells.{Pairwise}
 use Rattle.catalog.specs.Database.{ATable, AnIndex, Database, Name, name_order, object}
-use Rattle.catalog.specs.Listed.{has_only_plain, as_index, with_rows}
+use Rattle.catalog.specs.Listed.{as_index, key_columns, with_rows}
 use Rattle.catalog.specs.declared.tables.Index.{Index}
 use Rattle.catalog.specs.declared.tables.Table.{Table}
+use Rattle.catalog.proofs.NamedDatabases.{folded_twice}
+use Rattle.query_names.specs.Creating.{has_rowid_key}
+use Rattle.query_names.specs.Schema.{automatic}
 use Rattle.query_names.proofs.CreatedTables.{listed_made}
 use Rattle.db_files.specs.Schema as listed
-use Rattle.db_files.specs.Schema.{IsSchemaEntry, IsSchemaRowOf, SchemaRow}
+use Rattle.db_files.specs.Schema.{IsSchemaEntry, IsSchemaRowOf, SchemaRow, automatic_indexes}
 use Rattle.db_pages.specs.Language.{supported_language}
-use Rattle.db_pages.specs.Schema.{IndexTold, IsIndexRow, IsTableRow, TableTold, Tells, Told}
-use Rattle.db_pages.proofs.StandingTexts.{index_is, index_not_refused, no_automatic, not_refused, two_names}
+use Rattle.db_pages.specs.Schema.{IndexTold, IsIndexRow, IsKeyRow, IsTableRow, TableTold, Tells, Told, due_objects}
+use Rattle.db_pages.proofs.SortedObjects.{by_name}
+use Rattle.db_pages.proofs.StandingTexts.{index_is, index_not_refused, not_refused, two_names}
 use Rattle.db_pages.proofs.ToldObjects.{IsKept, told_name, told_object}
 
 -- what a row tells, as a row of the schema table
 abbrev pub row_told : (pages : ℕ) (told : Told) (row : Entry) → Tells pages told row → SchemaRow
 row_told pages (TableTold t) row tells = record { kind = codes "table"; name = tells.row_is.name; table = tells.row_is.table_name; root = t.root; sql = Some tells.sql }
-row_told pages (IndexTold t i) row tells = record { kind = codes "index"; name = tells.row_is.name; table = tells.row_is.table_name; root = i.root; sql = Some tells.sql }
+row_told pages (IndexTold t i) row (inl tells) = record { kind = codes "index"; name = tells.row_is.name; table = tells.row_is.table_name; root = i.root; sql = Some tells.sql }
+row_told pages (IndexTold t i) row (inr tells) = record { kind = codes "index"; name = tells.row_is.name; table = tells.row_is.table_name; root = i.root; sql = None }
 
 abbrev pub rows_told : (pages : ℕ) (told : List Told) (rows : List Entry) → Pairwise (Tells pages) told rows → List SchemaRow
 rows_told pages [] rows tell = []
@@ -31,7 +39,8 @@ rows_told pages (one ∷ told) (row ∷ rows) tell = row_told pages one row tell
 -- each entry of the page is the record of its row
 row_read : (pages : ℕ) (one : Told) (row : Entry) (tells : Tells pages one row) → IsSchemaEntry row (row_told pages one row tells)
 row_read pages (TableTold t) row tells = tells.row_is.row_is
-row_read pages (IndexTold t i) row tells = tells.row_is.row_is
+row_read pages (IndexTold t i) row (inl tells) = tells.row_is.row_is
+row_read pages (IndexTold t i) row (inr tells) = tells.row_is.row_is
 
 pub rows_read : (pages : ℕ) (told : List Told) (rows : List Entry) (tell : Pairwise (Tells pages) told rows) → Pairwise IsSchemaEntry rows (rows_told pages told rows tell)
 rows_read pages [] [] tell = tt
@@ -42,7 +51,8 @@ rows_read pages (one ∷ told) (row ∷ rows) tell = (row_read pages one row tel
 -- a row has the name that it tells
 pub name_told : (pages : ℕ) (one : Told) (row : Entry) (tells : Tells pages one row) → folded (row_told pages one row tells).name ≡ folded (told_name one)
 name_told pages (TableTold t) row tells = tells.row_is.name_is ∙ sym (ap folded tells.makes.name_is)
-name_told pages (IndexTold t i) row tells = tells.row_is.name_is ∙ sym (ap folded tells.makes.name_is)
+name_told pages (IndexTold t i) row (inl tells) = tells.row_is.name_is ∙ sym (ap folded tells.makes.name_is)
+name_told pages (IndexTold t i) row (inr tells) = tells.row_is.name_is
 
 pub rows_named : (pages : ℕ) (told : List Told) (rows : List Entry) (tell : Pairwise (Tells pages) told rows)
     → map (λ row. folded row.name) (rows_told pages told rows tell) ≡ map (λ one. folded (told_name one)) told
@@ -54,16 +64,25 @@ rows_named pages (one ∷ told) (row ∷ rows) tell =
 
 -- ---- what they say
 
-module _ (rows_at : ℕ → List (ℤ × List Value)) (db : Database) (only : has_only_plain db ≡ true) (pages : ℕ) where
+not_true : (b : Bool) → not b ≡ true → b ≡ false
+not_true true h = absurd (false≢true h)
+not_true false h = refl
+
+-- of a table, that the database has the indexes that its keys ask for as its automatic ones
+abbrev pub HasDueIn : Database → Told → Type 0
+HasDueIn db (TableTold t) = sorted by_name (due_objects t) ≡ automatic_indexes db t.name
+HasDueIn db (IndexTold t i) = ⊤
+
+module _ (rows_at : ℕ → List (ℤ × List Value)) (db : Database) (pages : ℕ) where
   -- the object of the row's name is what the row tells
   pub object_found : (one : Told) (row : Entry) (tells : Tells pages one row) → IsKept rows_at db one → object db (row_told pages one row tells).name ≡ Some (told_object rows_at one)
   object_found (TableTold t) row tells kept = ap (λ (n : Name). find name_order n db) (name_told pages (TableTold t) row tells) ∙ kept
   object_found (IndexTold t i) row tells kept = ap (λ (n : Name). find name_order n db) (name_told pages (IndexTold t i) row tells) ∙ kept.0
 
   -- the row's text makes the table
-  table_said : (t : Table) (row : Entry) (tells : IsTableRow pages t row) → listed.IsTableRow supported_language db (row_told pages (TableTold t) row tells) (with_rows t (rows_at t.root))
-  table_said t row tells =
-      let made = listed_made tells.definition tells.creates.1 t tells.makes.once tells.makes.columns tells.makes.checks in
+  table_said : (t : Table) (row : Entry) (tells : IsTableRow pages t row) → HasDueIn db (TableTold t) → listed.IsTableRow supported_language db (row_told pages (TableTold t) row tells) (with_rows t (rows_at t.root))
+  table_said t row tells due =
+      let made = listed_made tells.definition (not_true (has_rowid_key tells.definition) tells.creates.1) t tells.makes.once tells.makes.columns tells.makes.keys tells.makes.checks in
       record {
         definition = tells.definition;
         kind = refl;
@@ -71,18 +90,18 @@ module _ (rows_at : ℕ → List (ℤ × List Value)) (db : Database) (only : ha
           text = tells.sql;
           sql_is = refl;
           creates = tells.creates;
-          accepts = not_refused db tells.definition (with_rows t []) made tells.makes.free;
+          accepts = not_refused db tells.definition (with_rows t []) (map key_columns t.keys) made tells.makes.free;
         };
         name = tells.row_is.name_is;
         table = tells.row_is.table_name_is;
-        keys = [];
+        keys = map key_columns t.keys;
         made = made;
-        automatic_are = sym (no_automatic db tells.definition.name only);
+        automatic_are = subst (λ (n : Name). sorted by_name (automatic n 1 (map key_columns t.keys)) ≡ automatic_indexes db n) tells.makes.name_is due;
       }
 
   -- and the index
   index_said : (t : Table) (i : Index) (row : Entry) (tells : IsIndexRow pages t i row) → IsKept rows_at db (IndexTold t i)
-      → listed.IsIndexRow supported_language db (row_told pages (IndexTold t i) row tells) (as_index t i)
+      → listed.IsIndexRow supported_language db (row_told pages (IndexTold t i) row (inl tells)) (as_index t i)
   index_said t i row tells kept =
       let made = index_is db tells.definition t i (rows_at t.root) tells.makes kept.1 in
       let here = ap (λ n. object db n) (sym tells.makes.name_is) ∙ kept.0 in
@@ -102,12 +121,25 @@ module _ (rows_at : ℕ → List (ℤ × List Value)) (db : Database) (only : ha
         made = made;
       }
 
-  row_says : (one : Told) (row : Entry) (tells : Tells pages one row) → IsKept rows_at db one → IsSchemaRowOf supported_language db (row_told pages one row tells)
-  row_says (TableTold t) row tells kept = record { is = ATable (with_rows t (rows_at t.root)); found = object_found (TableTold t) row tells kept; says = table_said t row tells }
-  row_says (IndexTold t i) row tells kept = record { is = AnIndex (as_index t i); found = object_found (IndexTold t i) row tells kept; says = inl (index_said t i row tells kept) }
+  -- a row without a text says an automatic index
+  key_said : (t : Table) (i : Index) (row : Entry) (tells : IsKeyRow pages t i row) → IsKept rows_at db (IndexTold t i)
+      → listed.IsAutomaticRow db (row_told pages (IndexTold t i) row (inr tells)) (as_index t i)
+  key_said t i row tells kept = record {
+    t = with_rows t (rows_at t.root);
+    kind = refl;
+    sql = refl;
+    is_automatic = tells.automatic;
+    table = tells.row_is.table_name_is;
+    on = ap (λ (n : Name). find name_order n db) (folded_twice t.name) ∙ kept.1;
+  }
 
-  pub rows_say : (told : List Told) (rows : List Entry) (tell : Pairwise (Tells pages) told rows) → AllByRecursion (IsKept rows_at db) told
+  row_says : (one : Told) (row : Entry) (tells : Tells pages one row) → IsKept rows_at db one → HasDueIn db one → IsSchemaRowOf supported_language db (row_told pages one row tells)
+  row_says (TableTold t) row tells kept due = record { is = ATable (with_rows t (rows_at t.root)); found = object_found (TableTold t) row tells kept; says = table_said t row tells due }
+  row_says (IndexTold t i) row (inl tells) kept due = record { is = AnIndex (as_index t i); found = object_found (IndexTold t i) row (inl tells) kept; says = inl (index_said t i row tells kept) }
+  row_says (IndexTold t i) row (inr tells) kept due = record { is = AnIndex (as_index t i); found = object_found (IndexTold t i) row (inr tells) kept; says = inr (key_said t i row tells kept) }
+
+  pub rows_say : (told : List Told) (rows : List Entry) (tell : Pairwise (Tells pages) told rows) → AllByRecursion (IsKept rows_at db) told → AllByRecursion (HasDueIn db) told
       → AllByRecursion (IsSchemaRowOf supported_language db) (rows_told pages told rows tell)
-  rows_say [] rows tell kept = tt
-  rows_say (one ∷ told) [] tell kept = tt
-  rows_say (one ∷ told) (row ∷ rows) tell kept = (row_says one row tell.0 kept.0, rows_say told rows tell.1 kept.1)
+  rows_say [] rows tell kept due = tt
+  rows_say (one ∷ told) [] tell kept due = tt
+  rows_say (one ∷ told) (row ∷ rows) tell kept due = (row_says one row tell.0 kept.0 due.0, rows_say told rows tell.1 kept.1 due.1)

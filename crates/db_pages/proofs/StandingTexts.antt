@@ -1,5 +1,5 @@
 -- What the CREATE of a listed table or index makes, and that nothing refuses it beside the other objects.
-use Rattle.std.proofs.Common.{◌≡◌, ◌∙◌, refl, sym, ap, ℕ, ℤ, Bool, true, false, ◌&&◌, cond, List, [], ◌∷◌, map, Option, Some, None}
+use Rattle.std.proofs.Common.{◌≡◌, ◌∙◌, refl, sym, ap, ℕ, ℤ, Bool, true, false, cond, List, [], ◌∷◌, map, Option, Some, None}
 use Rattle.std.specs.Prelude.{is_some, not}
 use Rattle.std.specs.FinMap.Entries.{find}
 use Rattle.std.specs.Ordering.{eq_by_cmp}
@@ -13,16 +13,15 @@ use Rattle.sqlval.specs.declared.value.Value.{Value}
 use Rattle.sql_syntax.specs.declared.create.IndexDefinition.{IndexDefinition}
 use Rattle.sql_syntax.specs.declared.create.TableDefinition.{TableDefinition}
 use Rattle.catalog.specs.Database as database
-use Rattle.catalog.specs.Database.{ATable, AnIndex, AView, ATrigger, Database, Name, Object, name_order, object, with_object}
-use Rattle.catalog.specs.Listed.{has_only_plain, is_reserved, as_index, with_rows}
+use Rattle.catalog.specs.Database.{ATable, AnIndex, Database, Name, Object, name_order, object, with_object}
+use Rattle.catalog.specs.Listed.{is_reserved, as_index, with_rows}
 use Rattle.catalog.specs.declared.tables.Index.{Index}
 use Rattle.catalog.specs.declared.tables.Table.{Table}
 use Rattle.query_names.specs.Checked.{Checked, Meant, also, faults, good, known_map, ◌and_then◌, unless}
-use Rattle.query_names.specs.Schema.{create_index, create_table, index_made}
+use Rattle.query_names.specs.Schema.{automatic, create_index, create_table, index_made, with_objects}
 use Rattle.query_names.specs.Scopes.{is_doubled}
 use Rattle.query_names.specs.Tables.{table_made}
 use Rattle.query_names.proofs.ColumnNames.{folded_twice}
-use Rattle.db_files.specs.Schema.{automatic_indexes}
 use Rattle.query_bind.specs.Indexed.{key_of, names_in}
 use Rattle.db_pages.specs.Language.{others}
 use Rattle.db_pages.specs.Schema.{IsIndexOf}
@@ -42,12 +41,12 @@ unless_false false r (Meant x ss) h = refl
 
 -- ---- beside the others
 
--- an object whose name is free and new
-is_added : (db : Database) (n : Name) (o : Object) (reserved : Bool) (taken : Option Object) → reserved ≡ false → taken ≡ None
-    → known_map (λ (after : Database). after) (unless reserved Misuse (unless (is_some taken) Exists (known_map (with_object db n) (good o)))) ≡ good (with_object db n o)
-is_added db n o reserved taken free fresh =
-    ap (λ b. known_map (λ (after : Database). after) (unless b Misuse (unless (is_some taken) Exists (known_map (with_object db n) (good o))))) free
-    ∙ ap (λ t. known_map (λ (after : Database). after) (unless false Misuse (unless (is_some t) Exists (known_map (with_object db n) (good o))))) fresh
+-- an object whose name is free and new, and what is made of the database with it
+is_added : (f : Database → Database) (db : Database) (n : Name) (o : Object) (reserved : Bool) (taken : Option Object) → reserved ≡ false → taken ≡ None
+    → known_map f (unless reserved Misuse (unless (is_some taken) Exists (known_map (with_object db n) (good o)))) ≡ good (f (with_object db n o))
+is_added f db n o reserved taken free fresh =
+    ap (λ b. known_map f (unless b Misuse (unless (is_some taken) Exists (known_map (with_object db n) (good o))))) free
+    ∙ ap (λ t. known_map f (unless false Misuse (unless (is_some t) Exists (known_map (with_object db n) (good o))))) fresh
 
 -- the others have no object of the name
 none_other : (db : Database) (name : Name) → object (others db name) name ≡ None
@@ -67,10 +66,11 @@ none_other (e ∷ es) name = by_test (none_other es name) (is_same_name name e.0
     by_test rest false is = by_name rest is (eq_by_cmp name_order (folded name) e.0) refl
 
 -- a definition whose name isn't reserved is refused by nothing there
-pub not_refused : (db : Database) (d : TableDefinition) (t : database.Table) → table_made d ≡ good (t, []) → is_reserved d.name ≡ false → faults (create_table (others db d.name) d) ≡ []
-not_refused db d t made free = ap faults (
-    then_good (table_made d) (t, []) _ made
-    ∙ is_added (others db d.name) d.name (ATable t) (is_reserved d.name) (object (others db d.name) d.name) free (none_other db d.name))
+pub not_refused : (db : Database) (d : TableDefinition) (t : database.Table) (keys : List (List (ℕ × Collation))) → table_made d ≡ good (t, keys) → is_reserved d.name ≡ false
+    → faults (create_table (others db d.name) d) ≡ []
+not_refused db d t keys made free = ap faults (
+    then_good (table_made d) (t, keys) _ made
+    ∙ is_added (λ after. with_objects after (automatic d.name 1 keys)) (others db d.name) d.name (ATable t) (is_reserved d.name) (object (others db d.name) d.name) free (none_other db d.name))
 
 -- the others have what another name finds
 other_kept : (db : Database) (name q : Name) → is_same_name name q ≡ false → object (others db name) q ≡ object db q
@@ -95,8 +95,8 @@ other_kept (e ∷ es) name q apart = by_test (other_kept es name q apart) (is_sa
 abbrev index_over : IndexDefinition → List (ℕ × Collation) → Object
 index_over d ks = AnIndex (record { table = folded d.table; is_unique = d.is_unique; is_automatic = false; columns = ks })
 
-abbrev index_with : Name → Bool → List (ℕ × Collation) → Object
-index_with table unique ks = AnIndex (record { table = table; is_unique = unique; is_automatic = false; columns = ks })
+abbrev index_with : Name → Bool → Bool → List (ℕ × Collation) → Object
+index_with table unique made ks = AnIndex (record { table = table; is_unique = unique; is_automatic = made; columns = ks })
 
 -- its CREATE makes the index, whatever rows the table has
 pub index_is : (db : Database) (d : IndexDefinition) (t : Table) (i : Index) (rows : List (ℤ × List Value)) → IsIndexOf d t i
@@ -105,8 +105,9 @@ index_is db d t i rows is on =
     ap (λ n. index_made (find name_order n db) d) is.on
     ∙ ap (λ o. index_made o d) on
     ∙ ap (known_map (index_over d)) is.columns
-    ∙ ap (λ n. good (index_with n d.is_unique (map key_of i.columns))) is.on
-    ∙ ap (λ b. good (index_with (folded t.name) b (map key_of i.columns))) (sym is.unique)
+    ∙ ap (λ n. good (index_with n d.is_unique false (map key_of i.columns))) is.on
+    ∙ ap (λ b. good (index_with (folded t.name) b false (map key_of i.columns))) (sym is.unique)
+    ∙ ap (λ b. good (index_with (folded t.name) i.is_unique b (map key_of i.columns))) (sym is.written)
 
 -- a definition whose name isn't reserved is refused by nothing there
 pub index_not_refused : (db : Database) (d : IndexDefinition) (made : Object) → is_doubled (names_in d.columns) ≡ false → is_reserved d.name ≡ false
@@ -128,25 +129,3 @@ two_names db a b i t index table = by_test (is_same_name a b) refl
     by_test : (same : Bool) → is_same_name a b ≡ same → same ≡ false
     by_test true is = absurd (other_object (sym index ∙ ap (λ n. find name_order n db) (named_same a b is) ∙ table))
     by_test false is = refl
-
--- ---- indexes that no CREATE INDEX made
-
--- a database of tables and indexes that a CREATE INDEX made has none that a table made
-pub no_automatic : (db : Database) (table : Name) → has_only_plain db ≡ true → automatic_indexes db table ≡ []
-no_automatic [] table only = refl
-no_automatic ((name, ATable t) ∷ es) table only = no_automatic es table only
-no_automatic ((name, AnIndex i) ∷ es) table only =
-    by_test (plain i.is_automatic (has_only_plain es) only) (no_automatic es table (rest i.is_automatic (has_only_plain es) only))
-  where
-    plain : (b c : Bool) → (not b && c) ≡ true → b ≡ false
-    plain true c h = absurd (false≢true h)
-    plain false c h = refl
-
-    rest : (b c : Bool) → (not b && c) ≡ true → c ≡ true
-    rest true c h = absurd (false≢true h)
-    rest false c h = h
-
-    by_test : i.is_automatic ≡ false → automatic_indexes es table ≡ [] → automatic_indexes ((name, AnIndex i) ∷ es) table ≡ []
-    by_test e more = ap (λ b. cond (b && is_same_name i.table table) ((name, AnIndex i) ∷ automatic_indexes es table) (automatic_indexes es table)) e ∙ more
-no_automatic ((name, AView v) ∷ es) table only = absurd (false≢true only)
-no_automatic ((name, ATrigger t) ∷ es) table only = absurd (false≢true only)

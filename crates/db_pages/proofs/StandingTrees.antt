@@ -1,6 +1,6 @@
 -- The pages that store a database are whole, and each of them is used once: by the tree of a table or of an index, by that of the schema
 -- table, or by the freelist.
-use Rattle.std.proofs.Common.{◌≡◌, ◌∙◌, refl, sym, ap, subst, ◌<◌, ◌≤◌, ℕ, suc, List, [], ◌∷◌, ◌++◌, length, map, get_or, true, Ok, Result, Some, arith}
+use Rattle.std.proofs.Common.{◌≡◌, ◌∙◌, inl, inr, refl, sym, ap, subst, ◌<◌, ◌≤◌, ℕ, suc, List, [], ◌∷◌, ◌++◌, length, map, get_or, true, Ok, Result, Some, arith}
 use Rattle.std.specs.Prelude.{Bool, MatchOption, false, ⊤, cond, flat_map}
 use Rattle.std.proofs.lemmas.Grind.{common_steps}
 use Rattle.std.specs.FinMap.Entries.{find}
@@ -164,12 +164,17 @@ module _ (pages : PageMap) (size : ℕ) (tables : List Table) (db : Database) (s
       → HasTree pages size db (row_told (length pages) one row tells) o.used
   told_tree (TableTold t) row o tells kept tree = record {
     is = ATable (with_rows t (stored.rows_at t.root));
-    found = object_found stored.rows_at db stored.of_tables.only (length pages) (TableTold t) row tells kept;
+    found = object_found stored.rows_at db (length pages) (TableTold t) row tells kept;
     lists = table_rows t o tree.0 tree.1;
   }
-  told_tree (IndexTold t i) row o tells kept tree = record {
+  told_tree (IndexTold t i) row o (inl tells) kept tree = record {
     is = AnIndex (as_index t i);
-    found = object_found stored.rows_at db stored.of_tables.only (length pages) (IndexTold t i) row tells kept;
+    found = object_found stored.rows_at db (length pages) (IndexTold t i) row (inl tells) kept;
+    lists = index_entries t i o tree.0 tree.1 kept.1;
+  }
+  told_tree (IndexTold t i) row o (inr tells) kept tree = record {
+    is = AnIndex (as_index t i);
+    found = object_found stored.rows_at db (length pages) (IndexTold t i) row (inr tells) kept;
     lists = index_entries t i o tree.0 tree.1 kept.1;
   }
 

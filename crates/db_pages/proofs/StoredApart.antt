@@ -8,7 +8,6 @@ use Rattle.sqlval.specs.Names.{folded, is_same_name}
 use Rattle.pages.specs.Counting.{occurs}
 use Rattle.pages.specs.Map.{PageMap}
 use Rattle.catalog.specs.Database.{Name, Database}
-use Rattle.catalog.specs.declared.tables.Index.{Index}
 use Rattle.catalog.specs.declared.tables.Table.{Table}
 use Rattle.db_files.specs.Schema.{SchemaRow}
 use Rattle.row_scan.specs.Rows.{TableRow}
@@ -103,7 +102,7 @@ module _ (pages : PageMap) (size : ℕ) (db : Database) where
   row_named l is = is.says.name_is ∙ ap (λ (t : Table). folded t.name) (sym is.table_is)
 
   pub index_row_named : (l : IndexListing) → IsIndexListing pages size db l → folded l.row.name ≡ folded l.index.name
-  index_row_named l is = is.says.name_is ∙ ap (λ (i : Index). folded i.name) (sym is.index_is)
+  index_row_named l is = is.name_is
 
   pub names_apart : (items : List Item) → AllByRecursion (IsItem pages size db) items → AllApart (row_names (rows_in items)) → NamesApart (tables_among items)
   names_apart [] each apart = tt

@@ -12,7 +12,7 @@ use Rattle.catalog.specs.Listed.{table_named}
 use Rattle.catalog.specs.declared.tables.Table.{Table}
 use Rattle.db_pages.proofs.StoredShares.{GoesWithOne, theirs}
 use Rattle.db_pages.proofs.StoredNames.{Misses, named_same, same_named, same_some, some_is_none}
-use Rattle.db_pages.proofs.StoredListings.{IndexItem, IndexListing, IsIndexListing, IsItem, IsListing, Item, Listing, TableItem, row_of, rows_in}
+use Rattle.db_pages.proofs.StoredListings.{IndexItem, IndexListing, IsIndexListing, IsItem, IsListing, Item, Listing, TableItem, index_there, row_of, rows_in}
 use Rattle.db_pages.proofs.StoredApart.{NamesApart, all_both, all_so, indexes_among, of_indexes, of_items, of_tables, onto_names, other_name, row_names, row_named, tables_among}
 
 -- the index is on the table
@@ -121,7 +121,7 @@ module _ (pages : PageMap) (size : ℕ) (db : Database) (items : List Item) (eac
       (λ l is other same. other (sym (same ∙ row_named pages size db l is))) (tables_among items) (of_tables (IsItem pages size db) items each)
       (none_named (indexes_among items) (tables_among items) name none))
       (all_so (IsIndexListing pages size db) (λ l. folded name ≡ folded l.row.name → ⊥)
-      (λ l is same. table_is_index t is.i (sym found ∙ (ap (λ n. find name_order n db) same ∙ is.found))) (indexes_among items)
+      (λ l is same. table_is_index t (index_there l) (sym found ∙ (ap (λ n. find name_order n db) same ∙ is.found))) (indexes_among items)
       (of_indexes (IsItem pages size db) items each)))))
 
   pub home : (i : IndexListing) → IsIndexListing pages size db i → IsHome items i
@@ -129,4 +129,4 @@ module _ (pages : PageMap) (size : ℕ) (db : Database) (items : List Item) (eac
     where
       by_found : (found : Option Table) → table_named i.on (tables_in items) ≡ found → IsHome items i
       by_found (Some t) found = record { t = t; found = found }
-      by_found None found = absurd (none_else i.on is.says.t (ap (object db) is.on_is ∙ is.says.on) found)
+      by_found None found = absurd (none_else i.on is.t is.on found)

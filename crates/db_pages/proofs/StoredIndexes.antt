@@ -26,14 +26,18 @@ abbrev pub Keys : Type 0
 Keys = List (ℕ × Collation)
 
 -- the column of a key
-abbrev pub column_for : ℕ × Collation → IndexColumn
-column_for key = record { place = key.0; collation = key.1 }
+abbrev pub key_for : ℕ × Collation → IndexColumn
+key_for key = record { place = key.0; collation = key.1 }
 
 -- the index of a definition, of these keys, whose tree begins at this page, and whose row has this rowid
 abbrev pub index_of : IndexDefinition → Keys → ℕ → ℤ → Index
-index_of d keys root rowid = record { name = d.name; columns = map column_for keys; is_unique = d.is_unique; root = root; rowid = rowid }
+index_of d keys root rowid = record { name = d.name; columns = map key_for keys; is_unique = d.is_unique; is_automatic = false; root = root; rowid = rowid }
 
-pub same_keys : (keys : Keys) → map key_of (map column_for keys) ≡ keys
+-- the index of a row without a text: it has the folded name of the row, and the keys of the index that the database has
+abbrev pub index_of_row : SchemaRow → database.Index → ℤ → Index
+index_of_row row i rowid = record { name = folded row.name; columns = map key_for i.columns; is_unique = i.is_unique; is_automatic = i.is_automatic; root = row.root; rowid = rowid }
+
+pub same_keys : (keys : Keys) → map key_of (map key_for keys) ≡ keys
 same_keys [] = refl
 same_keys (key ∷ keys) = ap (λ ks. key ∷ ks) (same_keys keys)
 

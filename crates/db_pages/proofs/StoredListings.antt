@@ -1,5 +1,5 @@
 -- What the rows of the schema table tell: tables with their rows and trees, and indexes with theirs.
-use Rattle.std.proofs.Common.{◌≡◌, ◌==◌, refl, sym, ap, subst, ◌∙◌, ℕ, ℤ, true, List, [], ◌∷◌, ◌++◌, length, map, Option, Some, None, inl, inr}
+use Rattle.std.proofs.Common.{◌≡◌, ◌⊎◌, ◌==◌, refl, sym, ap, subst, ◌∙◌, ℕ, ℤ, Bool, true, false, codes, List, [], ◌∷◌, ◌++◌, length, map, Option, Some, None, inl, inr}
 use Rattle.std.proofs.lemmas.Bool.{eqb-true, false≢true}
 use Rattle.std.proofs.lemmas.List.{length-map}
 use Rattle.std.specs.FinMap.Entries.{find}
@@ -21,14 +21,14 @@ use Rattle.catalog.specs.declared.tables.Index.{Index}
 use Rattle.catalog.specs.declared.tables.Table.{Table}
 use Rattle.query_names.proofs.ColumnNames.{folded_twice}
 use Rattle.db_files.specs.Contents.{HasPages, HasTree, IsStoredRow, ListsEntries, ListsRows, stored}
-use Rattle.db_files.specs.Schema.{IsSchemaEntry, SchemaRow, IsRowOfObject, IsSchemaRowOf}
+use Rattle.db_files.specs.Schema.{IsAutomaticRow, IsSchemaEntry, SchemaRow, IsRowOfObject, IsSchemaRowOf}
 use Rattle.db_layout.specs.Layout.{OfEntries, OfRows, Owner, used_by}
 use Rattle.db_layout.specs.Trees.{columns_of}
 use Rattle.row_scan.specs.Rows.{IsRow, TableRow}
 use Rattle.db_pages.specs.Language.{supported_language}
 use Rattle.db_pages.proofs.StoredNames.{first_of, found_among, same_some, second_of}
 use Rattle.db_pages.proofs.StoredDefinitions.{IsTold, table_of, told}
-use Rattle.db_pages.proofs.StoredIndexes.{IsIndexTold, index_of, index_told, same_keys}
+use Rattle.db_pages.proofs.StoredIndexes.{IsIndexTold, index_of, index_of_row, index_told, same_keys}
 
 -- ---- listings
 
@@ -61,22 +61,42 @@ either f g (IndexItem l) = g l
 -- The database has the table with these rows, which are such as it may hold and stand in its tree.
 pub record IsListing (pages : PageMap) (size : ℕ) (db : Database) (l : Listing) : Type 0 where
   pub t : database.Table
-  pub says : IsTold l.row t
+  pub says : IsTold db l.row t
   pub table_is : l.table ≡ table_of says.definition l.row.root l.table.rowid
   pub found : object db l.row.name ≡ Some (ATable (with_rows l.table l.content))
   pub fit : are_rows (with_rows l.table l.content) ≡ true
   pub tree : IsTableTree pages size l.table.root l.entries l.used
   pub each : Pairwise (IsRow (length l.table.columns)) l.entries l.content
 
--- The database has the index, and its tree has the entries of its table's rows.
-pub record IsIndexListing (pages : PageMap) (size : ℕ) (db : Database) (l : IndexListing) : Type 0 where
+-- the index as the database has it
+abbrev pub index_there : IndexListing → database.Index
+index_there l = record { table = folded l.on; is_unique = l.index.is_unique; is_automatic = l.index.is_automatic; columns = columns_of l.index }
+
+-- its row has the text of a CREATE INDEX
+pub record IsOfText (db : Database) (l : IndexListing) : Type 0 where
   pub i : database.Index
   pub says : IsIndexTold db l.row i
   pub index_is : l.index ≡ index_of says.definition i.columns l.row.root l.index.rowid
   pub on_is : l.on ≡ says.definition.table
-  pub found : object db l.row.name ≡ Some (AnIndex i)
+
+-- its row has no text
+pub record IsOfKey (l : IndexListing) : Type 0 where
+  pub kind_is : l.row.kind ≡ codes "index"
+  pub sql_is : l.row.sql ≡ None
+  pub table_is : folded l.row.table ≡ folded l.on
+  pub root_is : l.row.root ≡ l.index.root
+  pub automatic : l.index.is_automatic ≡ true
+  pub named : folded l.index.name ≡ l.index.name
+
+-- The database has the index, on this table, and its tree has the entries of the table's rows.
+pub record IsIndexListing (pages : PageMap) (size : ℕ) (db : Database) (l : IndexListing) : Type 0 where
+  pub t : database.Table
+  pub on : object db l.on ≡ Some (ATable t)
+  pub says : IsOfText db l ⊎ IsOfKey l
+  pub name_is : folded l.row.name ≡ folded l.index.name
+  pub found : object db l.row.name ≡ Some (AnIndex (index_there l))
   pub tree : IsIndexTree pages size l.index.root (collations (columns_of l.index)) l.entries l.used
-  pub entries_are : l.entries ≡ entries_of_rows (columns_of l.index) says.t.rows
+  pub entries_are : l.entries ≡ entries_of_rows (columns_of l.index) t.rows
 
 abbrev pub IsItem : PageMap → ℕ → Database → Item → Type 0
 IsItem pages size db (TableItem l) = IsListing pages size db l
@@ -134,7 +154,7 @@ all_hold (e ∷ es) h = (first_of (holds_rows e.1) _ h, all_hold es (second_of (
 
 -- a table of the database, as its row in the schema table and its tree tell it
 module _ (pages : PageMap) (size : ℕ) (db : Database) (in_order : is_in_order db ≡ true) (row : SchemaRow) (t : database.Table)
-    (found : object db row.name ≡ Some (ATable t)) (says : IsTold row t) (used : List ℕ) (lists : ListsRows pages size row.root t used) (rowid : ℤ) where
+    (found : object db row.name ≡ Some (ATable t)) (says : IsTold db row t) (used : List ℕ) (lists : ListsRows pages size row.root t used) (rowid : ℤ) where
   abbrev pub its_listing : Listing
   its_listing = record { table = table_of says.definition row.root rowid; content = t.rows; entries = lists.entries; used = used; row = row }
 
@@ -163,39 +183,64 @@ module _ (pages : PageMap) (size : ℕ) (db : Database) (in_order : is_in_order 
 same_table : (s t : database.Table) → Some (ATable s) ≡ Some (ATable t) → s ≡ t
 same_table s t e = cc
 
+-- the keys of the index that the database has
+abbrev with_columns : Name → Bool → Bool → Columns → Option Object
+with_columns table unique automatic columns = Some (AnIndex (record { table = table; is_unique = unique; is_automatic = automatic; columns = columns }))
+
 -- an index of the database, as its row in the schema table and its tree tell it
 module _ (pages : PageMap) (size : ℕ) (db : Database) (row : SchemaRow) (i : database.Index)
-    (found : object db row.name ≡ Some (AnIndex i)) (says : IsIndexTold db row i) (used : List ℕ) (lists : ListsEntries pages size row.root db i used) (rowid : ℤ) where
-  abbrev pub its_index : IndexListing
-  its_index = record {
-    index = index_of says.definition i.columns row.root rowid;
-    on = says.definition.table;
-    entries = entries_of_rows i.columns lists.t.rows;
-    used = used;
-    row = row;
-  }
+    (found : object db row.name ≡ Some (AnIndex i)) (used : List ℕ) (lists : ListsEntries pages size row.root db i used) (rowid : ℤ) where
+  -- under a name, on a table of this one
+  abbrev pub listed_on : Index → Name → IndexListing
+  listed_on index on = record { index = index; on = on; entries = entries_of_rows i.columns lists.t.rows; used = used; row = row }
 
-  columns_are : columns_of its_index.index ≡ i.columns
-  columns_are = same_keys i.columns
+  tree_by : (columns : Columns) → columns ≡ i.columns → IsIndexTree pages size row.root (collations columns) (entries_of_rows i.columns lists.t.rows) used
+  tree_by columns same = subst (λ (columns : Columns). IsIndexTree pages size row.root (collations columns) (entries_of_rows i.columns lists.t.rows) used) (sym same) lists.tree
 
-  -- its table is the one that stands in its text
-  same_on : lists.t ≡ says.t
-  same_on =
-      same_table lists.t says.t
-      (sym lists.on ∙ (ap (λ (j : database.Index). object db j.table) says.index_is ∙ (ap (λ (n : Name). find name_order n db) (folded_twice says.definition.table) ∙ says.on)))
+  entries_by : (columns : Columns) (t : database.Table) → columns ≡ i.columns → lists.t ≡ t → entries_of_rows i.columns lists.t.rows ≡ entries_of_rows columns t.rows
+  entries_by columns t same on =
+      ap (λ (t : database.Table). entries_of_rows i.columns t.rows) on
+      ∙ ap (λ (columns : Columns). entries_of_rows columns t.rows) (sym same)
 
-  pub is_index : IsIndexListing pages size db its_index
-  is_index = record {
-    i = i;
-    says = says;
-    index_is = refl;
-    on_is = refl;
-    found = found;
-    tree = subst (λ (columns : Columns). IsIndexTree pages size row.root (collations columns) its_index.entries used) (sym columns_are) lists.tree;
-    entries_are =
-        ap (λ (t : database.Table). entries_of_rows i.columns t.rows) same_on
-        ∙ ap (λ (columns : Columns). entries_of_rows columns says.t.rows) (sym columns_are);
-  }
+  -- where the row has a text
+  module _ (says : IsIndexTold db row i) where
+    abbrev pub its_index : IndexListing
+    its_index = listed_on (index_of says.definition i.columns row.root rowid) says.definition.table
+
+    -- its table is the one that stands in its text
+    same_on : lists.t ≡ says.t
+    same_on =
+        same_table lists.t says.t
+        (sym lists.on ∙ (ap (λ (j : database.Index). object db j.table) says.index_is ∙ (ap (λ (n : Name). find name_order n db) (folded_twice says.definition.table) ∙ says.on)))
+
+    pub is_index : IsIndexListing pages size db its_index
+    is_index = record {
+      t = says.t;
+      on = says.on;
+      says = inl (record { i = i; says = says; index_is = refl; on_is = refl });
+      name_is = says.name_is;
+      found = found ∙ (ap (λ (j : database.Index). Some (AnIndex j)) says.index_is
+          ∙ ap (with_columns (folded says.definition.table) says.definition.is_unique false) (sym (same_keys i.columns)));
+      tree = tree_by (columns_of its_index.index) (same_keys i.columns);
+      entries_are = entries_by (columns_of its_index.index) says.t (same_keys i.columns) same_on;
+    }
+
+  -- where it has none
+  module _ (says : IsAutomaticRow db row i) where
+    abbrev pub its_key : IndexListing
+    its_key = listed_on (index_of_row row i rowid) row.table
+
+    pub is_key : IsIndexListing pages size db its_key
+    is_key = record {
+      t = says.t;
+      on = ap (λ (n : Name). find name_order n db) (sym (folded_twice row.table) ∙ ap folded says.table) ∙ says.on;
+      says = inr (record { kind_is = says.kind; sql_is = says.sql; table_is = refl; root_is = refl; automatic = says.is_automatic; named = folded_twice row.name });
+      name_is = sym (folded_twice row.name);
+      found = found ∙ (ap (λ (n : Name). with_columns n i.is_unique i.is_automatic i.columns) (sym says.table)
+          ∙ ap (with_columns (folded row.table) i.is_unique i.is_automatic) (sym (same_keys i.columns)));
+      tree = tree_by (columns_of its_key.index) (same_keys i.columns);
+      entries_are = entries_by (columns_of its_key.index) says.t (same_keys i.columns) (same_table lists.t says.t (sym lists.on ∙ says.on));
+    }
 
 -- ---- all rows of the schema table
 
@@ -211,10 +256,6 @@ pub record AreListings (pages : PageMap) (size : ℕ) (db : Database) (entries :
   pub used : flat_map (λ used. used) useds ≡ used_by (owners_in items)
   pub at_rowids : Pairwise IsEntryOf entries items
 
--- no table has an automatic index
-abbrev pub NoneAutomatic : Database → Type 0
-NoneAutomatic db = (q : Name) (i : database.Index) (t : database.Table) → find name_order q db ≡ Some (AnIndex i) → i.is_automatic ≡ true → object db i.table ≡ Some (ATable t) → ⊥
-
 -- what a row tells
 record Tells (pages : PageMap) (size : ℕ) (db : Database) (rowid : ℤ) (row : SchemaRow) (used : List ℕ) : Type 0 where
   item : Item
@@ -223,9 +264,9 @@ record Tells (pages : PageMap) (size : ℕ) (db : Database) (rowid : ℤ) (row :
   used_is : used ≡ (owner_of item).used
   rowid_is : rowid ≡ rowid_of item
 
-tells : (pages : PageMap) (size : ℕ) (db : Database) → is_in_order db ≡ true → NoneAutomatic db → (rowid : ℤ) (row : SchemaRow) (used : List ℕ) (o : Object) → object db row.name ≡ Some o
+tells : (pages : PageMap) (size : ℕ) (db : Database) → is_in_order db ≡ true → (rowid : ℤ) (row : SchemaRow) (used : List ℕ) (o : Object) → object db row.name ≡ Some o
     → IsRowOfObject supported_language db row o → HasPages pages size row.root db o used → Tells pages size db rowid row used
-tells pages size db in_order none rowid row used (ATable t) found says lists =
+tells pages size db in_order rowid row used (ATable t) found says lists =
     let is = told db row t says in
     record {
       item = TableItem (its_listing pages size db in_order row t found is used lists rowid);
@@ -234,31 +275,37 @@ tells pages size db in_order none rowid row used (ATable t) found says lists =
       used_is = refl;
       rowid_is = refl;
     }
-tells pages size db in_order none rowid row used (AnIndex i) found (inl says) lists =
+tells pages size db in_order rowid row used (AnIndex i) found (inl says) lists =
     let is = index_told db row i says in
     record {
-      item = IndexItem (its_index pages size db row i found is used lists rowid);
-      is = is_index pages size db row i found is used lists rowid;
+      item = IndexItem (its_index pages size db row i found used lists rowid is);
+      is = is_index pages size db row i found used lists rowid is;
       row_is = refl;
       used_is = refl;
       rowid_is = refl;
     }
-tells pages size db in_order none rowid row used (AnIndex i) found (inr says) lists = absurd (none (folded row.name) i says.t found says.is_automatic says.on)
-tells pages size db in_order none rowid row used (AView v) found says lists = absurd (false≢true says.text.creates.1)
-tells pages size db in_order none rowid row used (ATrigger t) found says lists = absurd (false≢true says.text.creates.1)
+tells pages size db in_order rowid row used (AnIndex i) found (inr says) lists = record {
+  item = IndexItem (its_key pages size db row i found used lists rowid says);
+  is = is_key pages size db row i found used lists rowid says;
+  row_is = refl;
+  used_is = refl;
+  rowid_is = refl;
+}
+tells pages size db in_order rowid row used (AView v) found says lists = absurd (false≢true says.text.creates.1)
+tells pages size db in_order rowid row used (ATrigger t) found says lists = absurd (false≢true says.text.creates.1)
 
-pub listings : (pages : PageMap) (size : ℕ) (db : Database) → is_in_order db ≡ true → NoneAutomatic db → (entries : List Entry) (rows : List SchemaRow) (useds : List (List ℕ))
+pub listings : (pages : PageMap) (size : ℕ) (db : Database) → is_in_order db ≡ true → (entries : List Entry) (rows : List SchemaRow) (useds : List (List ℕ))
     → Pairwise IsSchemaEntry entries rows → AllByRecursion (IsSchemaRowOf supported_language db) rows → Pairwise (HasTree pages size db) rows useds → AreListings pages size db entries rows useds
-listings pages size db in_order none (entry ∷ entries) [] useds read each trees = absurd read
-listings pages size db in_order none [] (row ∷ rows) useds read each trees = absurd read
-listings pages size db in_order none [] [] [] read each trees = record { items = []; rows_are = refl; each = tt; used = refl; at_rowids = tt }
-listings pages size db in_order none [] [] (used ∷ useds) read each trees = absurd trees
-listings pages size db in_order none (entry ∷ entries) (row ∷ rows) [] read each trees = absurd trees
-listings pages size db in_order none (entry ∷ entries) (row ∷ rows) (used ∷ useds) read each trees =
-    let more : AreListings pages size db entries rows useds = listings pages size db in_order none entries rows useds read.1 each.1 trees.1 in
+listings pages size db in_order (entry ∷ entries) [] useds read each trees = absurd read
+listings pages size db in_order [] (row ∷ rows) useds read each trees = absurd read
+listings pages size db in_order [] [] [] read each trees = record { items = []; rows_are = refl; each = tt; used = refl; at_rowids = tt }
+listings pages size db in_order [] [] (used ∷ useds) read each trees = absurd trees
+listings pages size db in_order (entry ∷ entries) (row ∷ rows) [] read each trees = absurd trees
+listings pages size db in_order (entry ∷ entries) (row ∷ rows) (used ∷ useds) read each trees =
+    let more : AreListings pages size db entries rows useds = listings pages size db in_order entries rows useds read.1 each.1 trees.1 in
     let same : trees.0.is ≡ each.0.is = same_some trees.0.is each.0.is (sym trees.0.found ∙ each.0.found) in
     let first : Tells pages size db entry.rowid row used =
-    tells pages size db in_order none entry.rowid row used each.0.is each.0.found each.0.says (subst (λ (o : Object). HasPages pages size row.root db o used) same trees.0.lists) in
+    tells pages size db in_order entry.rowid row used each.0.is each.0.found each.0.says (subst (λ (o : Object). HasPages pages size row.root db o used) same trees.0.lists) in
     record {
       items = first.item ∷ more.items;
       rows_are = ap (λ (r : SchemaRow). r ∷ rows_in more.items) first.row_is ∙ ap (λ (rs : List SchemaRow). row ∷ rs) more.rows_are;

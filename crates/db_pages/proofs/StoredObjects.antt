@@ -1,5 +1,5 @@
 -- The database of the tables and indexes that the schema's rows tell: its objects, by their names.
-use Rattle.std.proofs.Common.{◌≡◌, refl, sym, ap, ap₂, subst, ◌∙◌, ℕ, Bool, true, false, not, ◌&&◌, ◌||◌, cond, List, [], ◌∷◌, ◌++◌, map, flat_map, Option, Some, None}
+use Rattle.std.proofs.Common.{◌≡◌, ◌⊎◌, inl, inr, refl, sym, ap, ap₂, subst, ◌∙◌, ℕ, Bool, true, false, not, ◌&&◌, ◌||◌, cond, List, [], ◌∷◌, ◌++◌, map, flat_map, Option, Some, None}
 use Rattle.std.proofs.lemmas.Bool.{false≢true}
 use Rattle.std.specs.FinMap.Entries.{find}
 use Rattle.std.specs.List as list
@@ -8,7 +8,6 @@ use Rattle.std.specs.Prelude.{option_map}
 use Rattle.sqlval.specs.Lists.{any_twice, is_rising, sorted}
 use Rattle.sqlval.specs.Names.{folded, is_same_name}
 use Rattle.pages.specs.Map.{PageMap}
-use Rattle.catalog.specs.Database as database
 use Rattle.catalog.specs.Database.{Name, Database, Object, ATable, AnIndex, name_order, object}
 use Rattle.catalog.specs.Listed.{Lists, are_named_once, has_only_plain, index_objects, is_plain_object, named_among, names_of, as_index, with_rows, table_named}
 use Rattle.catalog.specs.Named.{IsNamed, IsOfTables}
@@ -17,18 +16,18 @@ use Rattle.catalog.specs.declared.tables.Index.{Index}
 use Rattle.catalog.specs.declared.tables.Table.{Table}
 use Rattle.catalog.proofs.Found.{as_object, index_found, listed_as}
 use Rattle.query_names.proofs.ColumnNames.{folded_twice}
-use Rattle.db_files.specs.Schema.{SchemaRow, IsRowOfObject, IsSchemaRowOf, IsTableRow}
+use Rattle.db_files.specs.Schema.{SchemaRow, automatic_indexes}
 use Rattle.db_layout.specs.Trees.{columns_of}
 use Rattle.row_scan.specs.Rows.{TableRow}
-use Rattle.db_pages.specs.Language.{supported_language}
+use Rattle.db_pages.specs.Schema.{HasKeyIndexes, automatic_objects, due_objects}
+use Rattle.db_pages.proofs.AutomaticObjects.{are_due, each_kept}
 use Rattle.db_pages.proofs.Reordering.{reordered_all, reordered_map}
+use Rattle.db_pages.proofs.SortedObjects.{HaveFoldedNames, by_name}
 use Rattle.db_pages.proofs.StoredShares.{AllApart, GoesWithOne, apart_reordered, theirs}
 use Rattle.db_pages.proofs.StoredNames.{Misses, all_sorted, each_found, first_of, missed, names_in, rising_different, named_same, same_named, same_some, some_is_none}
-use Rattle.db_pages.proofs.StoredDefinitions.{no_automatic}
-use Rattle.db_pages.proofs.StoredIndexes.{same_keys}
-use Rattle.db_pages.proofs.StoredListings.{IndexItem, IndexListing, IsIndexListing, IsItem, IsListing, Item, Listing, NoneAutomatic, TableItem, either, row_of, rows_in}
+use Rattle.db_pages.proofs.StoredListings.{IndexItem, IndexListing, IsIndexListing, IsItem, IsListing, IsOfKey, IsOfText, Item, Listing, TableItem, either, index_there, row_of, rows_in}
 use Rattle.db_pages.proofs.StoredApart.{NamesApart, RootsApart, Stands, all_both, all_joined, all_parts, all_so, all_stand, content_at, from_map, index_row_named, indexes_among, of_indexes, of_items, of_tables, onto_map, onto_names, other_name, row_named, row_names, tables_among}
-use Rattle.db_pages.proofs.StoredHomes.{HasHome, IsFoundWith, IsHome, all_theirs, found_with, home, is_on, none_named, on_one, tables_in, with_indexes}
+use Rattle.db_pages.proofs.StoredHomes.{HasHome, IsFoundIn, IsFoundWith, IsHome, all_theirs, each_found as all_found, found_with, home, is_on, none_named, on_one, tables_in, with_indexes}
 use Rattle.db_pages.proofs.StoredOrders.{index_name, names_reordered, table_name}
 
 -- ---- names of rows and of objects
@@ -47,24 +46,6 @@ missed_by db rows names q none = missed db q (all_names (λ n. q ≡ n → ⊥) 
 onto_objects : (P : Name → Type 0) (es : Database) → AllByRecursion P (names_in es) → AllByRecursion (λ e. P e.0) es
 onto_objects P [] h = tt
 onto_objects P (e ∷ es) h = (h.0, onto_objects P es h.1)
-
--- ---- no automatic indexes
-
--- a table's row by the object that it has
-row_of_table : (db : Database) (row : SchemaRow) (t : database.Table) → object db row.name ≡ Some (ATable t) → IsSchemaRowOf supported_language db row → IsTableRow supported_language db row t
-row_of_table db row t found is = subst (IsRowOfObject supported_language db row) (same_some is.is (ATable t) (sym is.found ∙ found)) is.says
-
-off_rows : (db : Database) (rows : List SchemaRow) (q : Name) (i : database.Index) (t : database.Table) → find name_order q db ≡ Some (AnIndex i) → i.is_automatic ≡ true → object db i.table ≡ Some (ATable t)
-    → AllByRecursion (IsSchemaRowOf supported_language db) rows → Misses (folded i.table) (row_names rows)
-off_rows db [] q i t found automatic_is on each = tt
-off_rows db (row ∷ rows) q i t found automatic_is on each = (
-  (λ same. no_automatic db row t (row_of_table db row t (subst (λ (n : Name). find name_order n db ≡ Some (ATable t)) same on) each.0) q i found automatic_is same),
-  off_rows db rows q i t found automatic_is on each.1,
-)
-
-pub none_automatic : (db : Database) (rows : List SchemaRow) → IsNamedBy rows db → AllByRecursion (IsSchemaRowOf supported_language db) rows → NoneAutomatic db
-none_automatic db rows names each q i t found automatic_is on =
-    some_is_none (ATable t) (sym on ∙ missed_by db rows names (folded i.table) (off_rows db rows q i t found automatic_is on each))
 
 -- ---- the database
 
@@ -175,8 +156,7 @@ module _ (pages : PageMap) (size : ℕ) (db : Database) (items : List Item) (are
 
   plain_item : (item : Item) → IsItem pages size db item → (o : Object) → find name_order (folded (row_of item).name) db ≡ Some o → IsPlain o
   plain_item (TableItem l) is o found = subst IsPlain (same_some (ATable (with_rows l.table l.content)) o (sym is.found ∙ found)) refl
-  plain_item (IndexItem l) is o found =
-      subst IsPlain (same_some (AnIndex is.i) o (sym is.found ∙ found)) (subst (λ (i : database.Index). IsPlain (AnIndex i)) (sym is.says.index_is) refl)
+  plain_item (IndexItem l) is o found = subst IsPlain (same_some (AnIndex (index_there l)) o (sym is.found ∙ found)) refl
 
   pub only : has_only_plain db ≡ true
   only =
@@ -188,18 +168,11 @@ module _ (pages : PageMap) (size : ℕ) (db : Database) (items : List Item) (are
 
   -- ---- tables and indexes by their names
 
-  -- the table of an index is the one that it is on
-  pub same_on : (l : Listing) (i : IndexListing) → IsListing pages size db l → (is : IsIndexListing pages size db i) → is_on l i ≡ true → folded l.table.name ≡ folded is.says.definition.table
-  same_on l i table is on = named_same l.table.name i.on on ∙ ap folded is.on_is
-
-  index_is : (l : Listing) (i : IndexListing) → IsListing pages size db l → IsIndexListing pages size db i → is_on l i ≡ true → IsObject db (object_of indexes l i)
-  index_is l i table is on =
+  index_is : (l : Listing) (i : IndexListing) → IsIndexListing pages size db i → is_on l i ≡ true → IsObject db (object_of indexes l i)
+  index_is l i is on =
       ap (λ n. find name_order n db) (sym (index_row_named pages size db i is))
-      ∙ (is.found ∙ (ap (λ (j : database.Index). Some (AnIndex j)) is.says.index_is
-      ∙ (ap (λ n. Some (AnIndex (record { table = n; is_unique = is.says.definition.is_unique; is_automatic = false; columns = is.i.columns }))) (sym (same_on l i table is on))
-      ∙ (ap (λ b. Some (AnIndex (record { table = folded l.table.name; is_unique = b; is_automatic = false; columns = is.i.columns }))) (sym (ap (λ (j : Index). j.is_unique) is.index_is))
-      ∙ ap (λ columns. Some (AnIndex (record { table = folded l.table.name; is_unique = i.index.is_unique; is_automatic = false; columns = columns })))
-      (sym (ap (λ (j : Index). columns_of j) is.index_is ∙ same_keys is.i.columns))))))
+      ∙ (is.found
+      ∙ ap (λ n. Some (AnIndex (record { table = n; is_unique = i.index.is_unique; is_automatic = i.index.is_automatic; columns = columns_of i.index }))) (sym (named_same l.table.name i.on on)))
 
   -- all indexes are objects of the database
   indexes_are : AllByRecursion (IsObject db) (flat_map index_objects (tables_in items))
@@ -210,7 +183,7 @@ module _ (pages : PageMap) (size : ℕ) (db : Database) (items : List Item) (are
       (λ l table. onto_map (IsObject db) (λ (i : Index). (i.name, AnIndex (as_index (with_indexes indexes l) i))) (map (λ i. i.index) (theirs is_on indexes l))
       (onto_map (λ (i : Index). IsObject db (i.name, AnIndex (as_index (with_indexes indexes l) i))) (λ i. i.index) (theirs is_on indexes l)
       (all_theirs (λ i. IsObject db (object_of indexes l i)) l indexes
-      (all_so (IsIndexListing pages size db) (λ i. is_on l i ≡ true → IsObject db (object_of indexes l i)) (λ i is on. index_is l i table is on) indexes each_index))))
+      (all_so (IsIndexListing pages size db) (λ i. is_on l i ≡ true → IsObject db (object_of indexes l i)) (λ i is on. index_is l i is on) indexes each_index))))
       tables each_table))
 
   -- a listed table is found in the database
@@ -267,3 +240,31 @@ module _ (pages : PageMap) (size : ℕ) (db : Database) (items : List Item) (are
 
   pub of_these : IsOfTables (content_at tables) (tables_in items) db
   of_these = record { lists = lists; only = only; named = named; once = once_named }
+
+  -- ---- the indexes that keys ask for
+
+  -- an automatic index has a folded name
+  named_folded : (i : IndexListing) → IsIndexListing pages size db i → i.index.is_automatic ≡ true → folded i.index.name ≡ i.index.name
+  named_folded i is made = by_row is.says
+    where
+      by_row : IsOfText db i ⊎ IsOfKey i → folded i.index.name ≡ i.index.name
+      by_row (inl text) = absurd (false≢true (sym (ap (λ (j : Index). j.is_automatic) text.index_is) ∙ made))
+      by_row (inr key) = key.named
+
+  automatic_folded : (l : Listing) → HaveFoldedNames (automatic_objects (with_indexes indexes l))
+  automatic_folded l =
+      each_kept (λ (i : Index). i.is_automatic) (λ (i : Index). (i.name, AnIndex (as_index (with_indexes indexes l) i))) (λ (o : Name × Object). folded o.0 ≡ o.0) (map (λ i. i.index) (theirs is_on indexes l))
+      (onto_map (λ (i : Index). i.is_automatic ≡ true → folded i.name ≡ i.name) (λ i. i.index) (theirs is_on indexes l)
+      (all_theirs (λ i. i.index.is_automatic ≡ true → folded i.index.name ≡ i.index.name) l indexes
+      (all_so (IsIndexListing pages size db) (λ i. is_on l i ≡ true → i.index.is_automatic ≡ true → folded i.index.name ≡ i.index.name) (λ i is on. named_folded i is) indexes each_index)))
+
+  -- the row of a table tells those of the database
+  due_are : (l : Listing) → IsListing pages size db l → sorted by_name (due_objects l.table) ≡ automatic_indexes db l.table.name
+  due_are l is = subst (λ (t : Table). sorted by_name (due_objects t) ≡ automatic_indexes db t.name) (sym is.table_is) is.says.automatic_are
+
+  pub has_keys : AllByRecursion HasKeyIndexes (tables_in items)
+  has_keys =
+      onto_map HasKeyIndexes (with_indexes indexes) tables
+      (all_both (IsListing pages size db) (IsFoundIn indexes tables) (λ l. HasKeyIndexes (with_indexes indexes l))
+      (λ l is found. are_due (content_at tables) (tables_in items) db of_these (with_indexes indexes l) (found l.table.name (same_named l.table.name l.table.name refl)) (automatic_folded l) (due_are l is))
+      tables each_table (all_found indexes tables are.tables_apart))

@@ -23,7 +23,7 @@ map_twice g f (x ∷ xs) = ap (λ zs. g (f x) ∷ zs) (map_twice g f xs)
 -- ---- what is told
 
 abbrev pub no_table : Table
-no_table = record { name = []; columns = []; checks = []; indexes = []; root = 0; rowid = pos 0 }
+no_table = record { name = []; columns = []; checks = []; keys = []; indexes = []; root = 0; rowid = pos 0 }
 
 -- the table of a name
 abbrev pub table_for : List Item → Name → Table

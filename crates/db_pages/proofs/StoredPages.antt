@@ -25,7 +25,7 @@ use Rattle.db_pages.proofs.StoredNames.{first_of, names_in, sorted_different}
 use Rattle.db_pages.proofs.StoredApart.{content_at, fewer_roots, from_map, indexes_among, names_apart, none_there, root_of, roots_apart, roots_in, row_names, table_roots, tables_among}
 use Rattle.db_pages.proofs.StoredHomes.{each_found, tables_in}
 use Rattle.db_pages.proofs.StoredListings.{AreListings, Item, listings, owners_in, rows_in}
-use Rattle.db_pages.proofs.StoredObjects.{AreObjects, each_index, homes_all, none_automatic, of_these, on_ones, stand}
+use Rattle.db_pages.proofs.StoredObjects.{AreObjects, each_index, has_keys, homes_all, of_these, on_ones, stand}
 use Rattle.db_pages.proofs.StoredOrders.{held_by, told_of, told_reordered, trees_reordered}
 use Rattle.db_pages.proofs.StoredTables.{IsAfterFirst, once, rows_told}
 use Rattle.db_pages.proofs.StoredTreePages.{free_there, owner_there, root_used}
@@ -71,8 +71,7 @@ module _ (pages : PageMap) (size : ℕ) (db : Database) (stands : StandsFor supp
   -- what the schema rows tell
   pub told_items : AreListings pages size db stands.schema.entries stands.rows stands.trees_used
   told_items =
-      listings pages size db stands.schema.in_order (none_automatic db stands.rows stands.schema.objects.names stands.schema.objects.each)
-      stands.schema.entries stands.rows stands.trees_used stands.schema.read stands.schema.objects.each stands.trees
+      listings pages size db stands.schema.in_order stands.schema.entries stands.rows stands.trees_used stands.schema.read stands.schema.objects.each stands.trees
 
   abbrev pub items : List Item
   items = told_items.items
@@ -165,6 +164,7 @@ module _ (pages : PageMap) (size : ℕ) (db : Database) (stands : StandsFor supp
     rows_at = content_at (tables_among items);
     of_tables = of_these pages size db items are_objects;
     once = once pages size db items are_objects;
+    keys = has_keys pages size db items are_objects;
     header = stands.header;
     header_is = stands.headed.header_is;
     sized = stands.headed.size_is;

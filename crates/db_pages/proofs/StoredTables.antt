@@ -1,5 +1,5 @@
 -- The rows of the schema table tell the tables and indexes that they list.
-use Rattle.std.proofs.Common.{◌≡◌, ◌<◌, refl, sym, ap, subst, ◌∙◌, ℕ, pos, Bool, true, false, cond, List, [], ◌∷◌, codes, length, map, Option, Some, None, arith}
+use Rattle.std.proofs.Common.{◌≡◌, ◌<◌, ◌⊎◌, inl, inr, refl, sym, ap, subst, ◌∙◌, ℕ, pos, Bool, true, false, cond, List, [], ◌∷◌, codes, length, map, Option, Some, None, arith}
 use Rattle.std.proofs.lemmas.Bool.{ltb-true, ltb-false}
 use Rattle.std.specs.List.{AllByRecursion}
 use Rattle.std.specs.Prelude.{nat_lt, unwrap_or}
@@ -17,16 +17,16 @@ use Rattle.catalog.specs.declared.tables.Index.{Index}
 use Rattle.catalog.specs.declared.tables.Table.{Table}
 use Rattle.query_names.specs.Bound.{AreOnce, is_twice_named}
 use Rattle.query_names.specs.Checked.{good, known_all}
-use Rattle.query_names.specs.Creating.{HasChecksOf, HasColumnsOf}
+use Rattle.query_names.specs.Creating.{HasChecksOf, HasColumnsOf, HasKeysOf}
 use Rattle.query_names.specs.Schema.{resolve_index_column}
 use Rattle.query_names.proofs.CreatedTables.{keeps_once}
 use Rattle.query_bind.specs.Indexed.{key_of, keys_known}
 use Rattle.db_files.specs.Schema.{SchemaRow, IsSchemaEntry, sql_value}
 use Rattle.std.specs.FinMap.Entries.{find}
-use Rattle.db_pages.specs.Schema.{HasRowOf, IsIndexRow, IsTableRow, Tells, schema_row}
+use Rattle.db_pages.specs.Schema.{HasRowOf, IsIndexRow, IsKeyRow, IsTableRow, Tells, schema_row}
 use Rattle.db_pages.proofs.StoredNames.{same_named, some_is_none}
 use Rattle.db_pages.proofs.StoredIndexes.{Keys, same_keys}
-use Rattle.db_pages.proofs.StoredListings.{IndexItem, IndexListing, IsEntryOf, IsIndexListing, IsItem, IsListing, Item, Listing, TableItem, owner_of, row_of, rows_in}
+use Rattle.db_pages.proofs.StoredListings.{IndexItem, IndexListing, IsEntryOf, IsIndexListing, IsItem, IsListing, IsOfKey, IsOfText, Item, Listing, TableItem, owner_of, row_of, rows_in}
 use Rattle.db_pages.proofs.StoredApart.{Stands, indexes_among, root_of, row_named, tables_among}
 use Rattle.db_pages.proofs.StoredHomes.{HasHome, IsFoundWith, found_with, tables_in, with_indexes}
 use Rattle.db_pages.proofs.StoredObjects.{AreObjects, stand}
@@ -39,11 +39,11 @@ use Rattle.db_pages.proofs.StoredTrees.{tree_is}
 abbrev values_with : SchemaRow → List ℕ → ℕ → Option (List ℕ) → List Value
 values_with row kind root sql = Text kind ∷ Text row.name ∷ Text row.table ∷ Int (pos root) ∷ sql_value sql ∷ []
 
-values_so : (row : SchemaRow) (entry : Entry) (kind sql : List ℕ) (root : ℕ) → row.kind ≡ kind → row.root ≡ root → row.sql ≡ Some sql → IsSchemaEntry entry row
+values_so : (row : SchemaRow) (entry : Entry) (kind : List ℕ) (sql : Option (List ℕ)) (root : ℕ) → row.kind ≡ kind → row.root ≡ root → row.sql ≡ sql → IsSchemaEntry entry row
     → IsRecord entry.payload (schema_row kind row.name row.table root sql)
 values_so row entry kind sql root kind_is root_is sql_is read =
-    subst (λ (kind : List ℕ). IsRecord entry.payload (values_with row kind root (Some sql))) kind_is
-    (subst (λ (root : ℕ). IsRecord entry.payload (values_with row row.kind root (Some sql))) root_is
+    subst (λ (kind : List ℕ). IsRecord entry.payload (values_with row kind root sql)) kind_is
+    (subst (λ (root : ℕ). IsRecord entry.payload (values_with row row.kind root sql)) root_is
     (subst (λ (sql : Option (List ℕ)). IsRecord entry.payload (values_with row row.kind row.root sql)) sql_is read))
 
 -- its tree doesn't begin at page 1
@@ -66,13 +66,16 @@ columns_so pages size db l is = subst (HasColumnsOf is.says.definition) (sym is.
 checks_so : (pages : PageMap) (size : ℕ) (db : Database) (l : Listing) → (is : IsListing pages size db l) → HasChecksOf is.says.definition l.table
 checks_so pages size db l is = subst (HasChecksOf is.says.definition) (sym is.table_is) is.says.checks_are
 
+keys_so : (pages : PageMap) (size : ℕ) (db : Database) (l : Listing) → (is : IsListing pages size db l) → HasKeysOf is.says.definition l.table
+keys_so pages size db l is = subst (HasKeysOf is.says.definition) (sym is.table_is) is.says.keys_are
+
 module _ (pages : PageMap) (size : ℕ) (db : Database) (items : List Item) (are : AreObjects pages size db items) where
   has_root : (item : Item) → IsItem pages size db item → Has pages (root_of item)
   has_root item is = owner_root_there pages size (owner_of item) (tree_is pages size db item is)
 
   -- a row has the names of what it tells
-  has_row : (item : Item) (entry : Entry) (kind sql : List ℕ) (own_name on_table : Name) → IsItem pages size db item → IsAfterFirst item → IsSchemaEntry entry (row_of item)
-      → folded (row_of item).name ≡ folded own_name → folded (row_of item).table ≡ folded on_table → (row_of item).kind ≡ kind → (row_of item).root ≡ root_of item → (row_of item).sql ≡ Some sql
+  has_row : (item : Item) (entry : Entry) (kind : List ℕ) (sql : Option (List ℕ)) (own_name on_table : Name) → IsItem pages size db item → IsAfterFirst item → IsSchemaEntry entry (row_of item)
+      → folded (row_of item).name ≡ folded own_name → folded (row_of item).table ≡ folded on_table → (row_of item).kind ≡ kind → (row_of item).root ≡ root_of item → (row_of item).sql ≡ sql
       → HasRowOf (length pages) kind own_name on_table (root_of item) sql entry
   has_row item entry kind sql own_name on_table is after read name_is table_is kind_is root_is sql_is =
       let there = has_root item is in
@@ -98,14 +101,15 @@ module _ (pages : PageMap) (size : ℕ) (db : Database) (items : List Item) (are
       name_is = ap (λ (t : Table). t.name) is.table_is;
       columns = columns_so pages size db l is;
       checks = checks_so pages size db l is;
+      keys = keys_so pages size db l is;
     };
     rowid_is = at;
-    row_is = has_row (TableItem l) entry (codes "table") is.says.sql is.says.definition.name is.says.definition.name is after read is.says.name_is is.says.table_is is.says.kind_is
+    row_is = has_row (TableItem l) entry (codes "table") (Some is.says.sql) is.says.definition.name is.says.definition.name is after read is.says.name_is is.says.table_is is.says.kind_is
         (sym (ap (λ (t : Table). t.root) is.table_is)) is.says.sql_is;
   }
 
   -- the table of an index is the one of its text
-  same_keys_known : (l : Listing) (i : IndexListing) → IsListing pages size db l → (is : IsIndexListing pages size db i) → folded l.table.name ≡ folded i.on
+  same_keys_known : (l : Listing) (i : IndexListing) → IsListing pages size db l → (is : IsOfText db i) → folded l.table.name ≡ folded i.on
       → keys_known (with_indexes (indexes_among items) l) is.says.definition ≡ good (map key_of i.index.columns)
   same_keys_known l i table is on =
       let found : is.says.t ≡ with_rows l.table l.content =
@@ -114,23 +118,32 @@ module _ (pages : PageMap) (size : ℕ) (db : Database) (items : List Item) (are
       ap (λ (t : database.Table). known_all (map (resolve_index_column is.says.definition.table t) is.says.definition.columns)) (sym found)
       ∙ (is.says.known ∙ ap (λ (keys : Keys). good keys) (sym (ap (λ (j : Index). map key_of j.columns) is.index_is ∙ same_keys is.i.columns)))
 
-  index_row : (i : IndexListing) (entry : Entry) (l : Listing) → IsListing pages size db l → folded l.table.name ≡ folded i.on → IsIndexListing pages size db i → IsAfterFirst (IndexItem i) → IsSchemaEntry entry i.row
-      → IsEntryOf entry (IndexItem i) → IsIndexRow (length pages) (with_indexes (indexes_among items) l) i.index entry
-  index_row i entry l table on is after read at = record {
-    sql = is.says.sql;
-    definition = is.says.definition;
-    creates = is.says.creates;
+  index_row : (i : IndexListing) (entry : Entry) (l : Listing) → IsListing pages size db l → folded l.table.name ≡ folded i.on → IsIndexListing pages size db i → IsOfText db i → IsAfterFirst (IndexItem i)
+      → IsSchemaEntry entry i.row → IsEntryOf entry (IndexItem i) → IsIndexRow (length pages) (with_indexes (indexes_among items) l) i.index entry
+  index_row i entry l table on is text after read at = record {
+    sql = text.says.sql;
+    definition = text.says.definition;
+    creates = text.says.creates;
     makes = record {
-      free = is.says.free;
-      once = is.says.once;
-      name_is = ap (λ (j : Index). j.name) is.index_is;
-      on = ap folded (sym is.on_is) ∙ sym on;
-      unique = ap (λ (j : Index). j.is_unique) is.index_is;
-      columns = same_keys_known l i table is on;
+      free = text.says.free;
+      once = text.says.once;
+      name_is = ap (λ (j : Index). j.name) text.index_is;
+      on = ap folded (sym text.on_is) ∙ sym on;
+      unique = ap (λ (j : Index). j.is_unique) text.index_is;
+      written = ap (λ (j : Index). j.is_automatic) text.index_is;
+      columns = same_keys_known l i table text on;
     };
     rowid_is = at;
-    row_is = has_row (IndexItem i) entry (codes "index") is.says.sql is.says.definition.name is.says.definition.table is after read is.says.name_is is.says.table_is is.says.kind_is
-        (sym (ap (λ (j : Index). j.root) is.index_is)) is.says.sql_is;
+    row_is = has_row (IndexItem i) entry (codes "index") (Some text.says.sql) text.says.definition.name text.says.definition.table is after read text.says.name_is text.says.table_is text.says.kind_is
+        (sym (ap (λ (j : Index). j.root) text.index_is)) text.says.sql_is;
+  }
+
+  key_row : (i : IndexListing) (entry : Entry) (l : Listing) → folded l.table.name ≡ folded i.on → IsIndexListing pages size db i → IsOfKey i → IsAfterFirst (IndexItem i) → IsSchemaEntry entry i.row
+      → IsEntryOf entry (IndexItem i) → IsKeyRow (length pages) (with_indexes (indexes_among items) l) i.index entry
+  key_row i entry l on is key after read at = record {
+    automatic = key.automatic;
+    rowid_is = at;
+    row_is = has_row (IndexItem i) entry (codes "index") None i.index.name l.table.name is after read is.name_is (key.table_is ∙ sym on) key.kind_is key.root_is key.sql_is;
   }
 
   told_row : (item : Item) (entry : Entry) → IsItem pages size db item → HasHome items item → IsAfterFirst item → IsSchemaEntry entry (row_of item) → IsEntryOf entry item
@@ -141,7 +154,12 @@ module _ (pages : PageMap) (size : ℕ) (db : Database) (items : List Item) (are
       found_with (indexes_among items) (Stands pages size db (tables_among items)) (tables_among items) i.on home.t (stand pages size db items are) home.found in
       let found : with_indexes (indexes_among items) f.l ≡ table_for items i.on =
       f.table_is ∙ ap (λ (o : Option Table). unwrap_or o no_table) (sym home.found) in
-      subst (λ (t : Table). IsIndexRow (length pages) t i.index entry) found (index_row i entry f.l f.holds.is f.same is after read at)
+      subst (λ (t : Table). IsIndexRow (length pages) t i.index entry ⊎ IsKeyRow (length pages) t i.index entry) found (by_row f.l f.holds.is f.same is.says)
+    where
+      by_row : (l : Listing) → IsListing pages size db l → folded l.table.name ≡ folded i.on → IsOfText db i ⊎ IsOfKey i
+          → IsIndexRow (length pages) (with_indexes (indexes_among items) l) i.index entry ⊎ IsKeyRow (length pages) (with_indexes (indexes_among items) l) i.index entry
+      by_row l table on (inl text) = inl (index_row i entry l table on is text after read at)
+      by_row l table on (inr key) = inr (key_row i entry l on is key after read at)
 
   pub rows_told : (some : List Item) (entries : List Entry) → AllByRecursion (IsItem pages size db) some → AllByRecursion (HasHome items) some → AllByRecursion IsAfterFirst some
       → Pairwise IsSchemaEntry entries (rows_in some) → Pairwise IsEntryOf entries some → Pairwise (Tells (length pages)) (map (told_of items) some) entries

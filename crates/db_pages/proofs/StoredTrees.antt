@@ -4,7 +4,6 @@ use Rattle.std.proofs.lemmas.Bool.{cases_lt}
 use Rattle.std.proofs.lemmas.Bool.Decides.{nat_tests}
 use Rattle.std.specs.FinMap.Entries.{find}
 use Rattle.std.specs.List.{AllByRecursion}
-use Rattle.sqlval.specs.Names.{folded}
 use Rattle.pages.proofs.Moving.{occurs_append}
 use Rattle.pages.specs.Counting.{occurs}
 use Rattle.pages.specs.Map.{Has, PageMap}
@@ -68,9 +67,9 @@ module _ (pages : PageMap) (size : ℕ) (db : Database) (all : List Listing) (in
   -- an index's tree has the entries of its table's rows
   entries_so : (l : Listing) (i : IndexListing) → Stands pages size db all l → IsIndexListing pages size db i → is_on l i ≡ true → IsEntriesTree (rows_of l) i.index (index_tree i)
   entries_so l i stands is on =
-      let same : is.says.t ≡ with_rows l.table l.content =
-      same_table is.says.t (with_rows l.table l.content)
-      (sym is.says.on ∙ (ap (λ n. find name_order n db) (sym (row_named pages size db l stands.is ∙ (named_same l.table.name i.on on ∙ ap folded is.on_is))) ∙ stands.is.found)) in
+      let same : is.t ≡ with_rows l.table l.content =
+      same_table is.t (with_rows l.table l.content)
+      (sym is.on ∙ (ap (λ n. find name_order n db) (sym (row_named pages size db l stands.is ∙ named_same l.table.name i.on on)) ∙ stands.is.found)) in
       record {
         root_is = refl;
         content_is = ap (OfEntries (collations (columns_of i.index)))

@@ -82,7 +82,7 @@ all_first : {A : Type 0} (P : A → Type 0) (xs ys : List A) → AllByRecursion 
 all_first P [] ys all = tt
 all_first P (x ∷ xs) ys all = (all.0, all_first P xs ys all.1)
 
-all_second : {A : Type 0} (P : A → Type 0) (xs ys : List A) → AllByRecursion P (xs ++ ys) → AllByRecursion P ys
+pub all_second : {A : Type 0} (P : A → Type 0) (xs ys : List A) → AllByRecursion P (xs ++ ys) → AllByRecursion P ys
 all_second P [] ys all = all
 all_second P (x ∷ xs) ys all = all_second P xs ys all.1
 

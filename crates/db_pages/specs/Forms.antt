@@ -1,11 +1,11 @@
 -- The forms of CREATE that are supported so far. The list only grows, and goes away when all are.
-use Rattle.std.specs.Prelude.{Bool, true, false}
+use Rattle.std.specs.Prelude.{Bool, true, false, not}
 use Rattle.sql_syntax.specs.declared.create.NewObject.{NewObject}
 use Rattle.sql_syntax.specs.declared.create.NewObject.TheVariants as new
-use Rattle.query_names.specs.Creating.{has_no_keys}
+use Rattle.query_names.specs.Creating.{has_rowid_key}
 
--- a table without keys, and an index
+-- a table of which no column is another name of the rowid, and an index
 abbrev pub is_object_supported : NewObject → Bool
-is_object_supported (new.Table d) = has_no_keys d
+is_object_supported (new.Table d) = not (has_rowid_key d)
 is_object_supported (new.Index d) = true
 is_object_supported _ = false

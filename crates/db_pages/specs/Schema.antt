@@ -1,6 +1,6 @@
--- The rows of the schema table: each has the text of a CREATE TABLE or of a CREATE INDEX (Database File Format, "Storage Of The SQL
--- Database Schema").
-use Rattle.std.specs.Prelude.{◌≡◌, ◌<◌, ◌≤◌, true, false, ℕ, pos, codes, List, [], ◌∷◌, flat_map, length, map}
+-- The rows of the schema table: each has the text of a CREATE TABLE or of a CREATE INDEX, or it is that of an automatic index, without a text
+-- (Database File Format, "Storage Of The SQL Database Schema").
+use Rattle.std.specs.Prelude.{◌≡◌, ◌⊎◌, ◌<◌, ◌≤◌, true, false, ℕ, pos, codes, List, [], ◌∷◌, Option, Some, None, filter, flat_map, length, map}
 use Rattle.sqlval.specs.Names.{folded}
 use Rattle.sqlval.specs.declared.value.Value.{Value}
 use Rattle.sqlval.specs.declared.value.Value.TheVariants.{Int, Text}
@@ -14,14 +14,16 @@ use Rattle.sql_syntax.specs.declared.create.TableDefinition.{TableDefinition}
 use Rattle.sql_syntax.specs.declared.statement.Statement.TheVariants as statement
 use Rattle.sql_grammar.specs.NewObjects.{is_object_within}
 use Rattle.sql_grammar.specs.Texts.{IsStatementText}
-use Rattle.catalog.specs.Database.{Name}
-use Rattle.catalog.specs.Listed.{is_reserved}
+use Rattle.catalog.specs.Database.{AnIndex, Name, Object}
+use Rattle.catalog.specs.Listed.{as_index, is_reserved, key_columns}
 use Rattle.catalog.specs.declared.tables.Index.{Index}
 use Rattle.catalog.specs.declared.tables.Table.{Table}
 use Rattle.query_names.specs.Checked.{good}
-use Rattle.query_names.specs.Creating.{HasChecksOf, HasColumnsOf, has_doubled}
+use Rattle.query_names.specs.Creating.{HasChecksOf, HasColumnsOf, HasKeysOf, has_doubled}
+use Rattle.query_names.specs.Schema.{automatic}
 use Rattle.query_names.specs.Scopes.{is_doubled}
 use Rattle.query_bind.specs.Indexed.{key_of, keys_known, names_in}
+use Rattle.db_files.specs.Schema.{sql_value}
 use Rattle.db_pages.specs.Forms.{is_object_supported}
 use Rattle.db_pages.specs.Reordering.{AreReordered}
 
@@ -40,13 +42,14 @@ CreatesSupported text made = IsCreateOf text made × (is_object_supported made �
 
 -- ---- what they make
 
--- The table of a definition, with its columns and CHECKs: its name may be given, and no two columns have one name.
+-- The table of a definition, with its columns, CHECKs and keys: its name may be given, and no two columns have one name.
 pub record IsTableOf (d : TableDefinition) (table : Table) : Type 0 where
   pub free : is_reserved d.name ≡ false
   pub once : has_doubled d.columns ≡ false
   pub name_is : table.name ≡ d.name
   pub columns : HasColumnsOf d table
   pub checks : HasChecksOf d table
+  pub keys : HasKeysOf d table
 
 -- The index of a definition on this table: its name may be given, it names no column twice, and each is one of the table's.
 pub record IsIndexOf (d : IndexDefinition) (table : Table) (index : Index) : Type 0 where
@@ -55,16 +58,29 @@ pub record IsIndexOf (d : IndexDefinition) (table : Table) (index : Index) : Typ
   pub name_is : index.name ≡ d.name
   pub on : folded d.table ≡ folded table.name
   pub unique : index.is_unique ≡ d.is_unique
+  pub written : index.is_automatic ≡ false
   pub columns : keys_known table d ≡ good (map key_of index.columns)
+
+-- the indexes that the keys of a table ask for, each under its name
+abbrev pub due_objects : Table → List (Name × Object)
+due_objects table = automatic table.name 1 (map key_columns table.keys)
+
+-- its automatic indexes, each under its name
+abbrev pub automatic_objects : Table → List (Name × Object)
+automatic_objects table = map (λ i. (i.name, AnIndex (as_index table i))) (filter (λ i. i.is_automatic) table.indexes)
+
+-- The automatic indexes of the table are those that its keys ask for, in whatever order.
+abbrev pub HasKeyIndexes : Table → Type 0
+HasKeyIndexes table = AreReordered (automatic_objects table) (due_objects table)
 
 -- ---- rows
 
--- the values of a row: its kind, its name and its table's, the page where its tree begins, and its text
-abbrev pub schema_row : List ℕ → Name → Name → ℕ → List ℕ → List Value
-schema_row kind name table_name root sql = Text kind ∷ Text name ∷ Text table_name ∷ Int (pos root) ∷ Text sql ∷ []
+-- the values of a row: its kind, its name and its table's, the page where its tree begins, and its text, or none
+abbrev pub schema_row : List ℕ → Name → Name → ℕ → Option (List ℕ) → List Value
+schema_row kind name table_name root sql = Text kind ∷ Text name ∷ Text table_name ∷ Int (pos root) ∷ sql_value sql ∷ []
 
 -- The row has this kind and text, a page of so many where a tree begins, and these two names in letters of either case.
-pub record HasRowOf (pages : ℕ) (kind : List ℕ) (own_name on_table : Name) (root : ℕ) (sql : List ℕ) (row : Entry) : Type 0 where
+pub record HasRowOf (pages : ℕ) (kind : List ℕ) (own_name on_table : Name) (root : ℕ) (sql : Option (List ℕ)) (row : Entry) : Type 0 where
   pub above : 1 < root
   pub within : root ≤ pages
   pub name : Name
@@ -80,7 +96,7 @@ pub record IsTableRow (pages : ℕ) (table : Table) (row : Entry) : Type 0 where
   pub creates : CreatesSupported sql (new.Table definition)
   pub makes : IsTableOf definition table
   pub rowid_is : row.rowid ≡ table.rowid
-  pub row_is : HasRowOf pages (codes "table") definition.name definition.name table.root sql row
+  pub row_is : HasRowOf pages (codes "table") definition.name definition.name table.root (Some sql) row
 
 -- The row, at the rowid that the index has for it, tells the index of the table: it has the text of a CREATE INDEX that is supported, the
 -- name of the index, and that of the table.
@@ -90,7 +106,13 @@ pub record IsIndexRow (pages : ℕ) (table : Table) (index : Index) (row : Entry
   pub creates : CreatesSupported sql (new.Index definition)
   pub makes : IsIndexOf definition table index
   pub rowid_is : row.rowid ≡ index.rowid
-  pub row_is : HasRowOf pages (codes "index") definition.name definition.table index.root sql row
+  pub row_is : HasRowOf pages (codes "index") definition.name definition.table index.root (Some sql) row
+
+-- The row, at the rowid that the index has for it, tells an automatic index of the table: it has the names of both, and no text.
+pub record IsKeyRow (pages : ℕ) (table : Table) (index : Index) (row : Entry) : Type 0 where
+  pub automatic : index.is_automatic ≡ true
+  pub rowid_is : row.rowid ≡ index.rowid
+  pub row_is : HasRowOf pages (codes "index") index.name table.name index.root None row
 
 -- what a row tells: a table, or an index of one
 pub data Told : Type 0 where
@@ -107,7 +129,7 @@ all_told tables = flat_map told_by tables
 -- the row tells it, in a database of so many pages
 abbrev pub Tells : ℕ → Told → Entry → Type 0
 Tells pages (TableTold table) row = IsTableRow pages table row
-Tells pages (IndexTold table index) row = IsIndexRow pages table index row
+Tells pages (IndexTold table index) row = IsIndexRow pages table index row ⊎ IsKeyRow pages table index row
 
 -- Each row tells one of the tables and indexes, and each of these is told by one row, in whatever order.
 pub record AreRowsOf (pages : ℕ) (tables : List Table) (rows : List Entry) : Type 0 where

@@ -1,5 +1,6 @@
 -- Which database the pages of a file hold whose tables and indexes are listed (Database File Format, "The Database File").
 use Rattle.std.specs.Prelude.{◌≡◌, ⊤, ℕ, true, List, ◌∷◌, flat_map, length, MatchOption}
+use Rattle.std.specs.List.{AllByRecursion}
 use Rattle.db_header.specs.Header.{IsHeader, counted_of}
 use Rattle.db_header.specs.declared.fields.Header.{Header}
 use Rattle.tree_leaf.specs.Leaf.{Entry}
@@ -14,7 +15,7 @@ use Rattle.catalog.specs.Rows.{are_rows}
 use Rattle.catalog.specs.declared.tables.Table.{Table}
 use Rattle.query_names.specs.Bound.{AreOnce}
 use Rattle.row_scan.specs.Rows.{TableRow}
-use Rattle.db_pages.specs.Schema.{AreRowsOf}
+use Rattle.db_pages.specs.Schema.{AreRowsOf, HasKeyIndexes}
 
 -- the tree of the schema table, which begins at page 1
 abbrev pub schema_tree : List Entry → List ℕ → Owner
@@ -35,6 +36,7 @@ pub record Stores (map : PageMap) (size : ℕ) (tables : List Table) (db : Datab
   pub rows_at : ℕ → List TableRow
   pub of_tables : IsOfTables rows_at tables db
   pub once : AreOnce tables
+  pub keys : AllByRecursion HasKeyIndexes tables
   pub header : Header
   pub header_is : IsHeader (page_at map 1) header
   pub sized : header.page_size ≡ size

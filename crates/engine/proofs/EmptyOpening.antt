@@ -156,6 +156,7 @@ nothing_shown page_size page served e = record {
   stored = record {
     rows_at = λ root. [];
     of_tables = record { lists = λ name. refl; only = refl; named = record { rising = refl; each_folded = tt }; once = refl };
+    keys = tt;
     once = λ name t listed. none_listed t listed;
     header = empty_of page_size;
     header_is = subst (λ (b : List ℕ). IsHeader b (empty_of page_size)) (sym (only_page page_size page served e)) (page_header_is page_size page e);

@@ -1,5 +1,5 @@
 -- What a bound query reads.
-use Rattle.std.proofs.Common.{◌≡◌, inl, inr, sym, ap, subst, ◌∙◌, List, [], Result, Ok, Err}
+use Rattle.std.proofs.Common.{◌≡◌, inl, inr, sym, ap, subst, ◌∙◌, List, [], MatchResult, Result, Ok, Err}
 use Rattle.std.specs.Prelude.{Contains, IsErrAnd}
 use Rattle.sqlval.specs.Faults.{IsOutside}
 use Rattle.sqlval.specs.Refusals.{Answer, refusal_of}
@@ -38,3 +38,8 @@ unbound_read view read (Err e) f is (inr has) = inr (inl (subst (λ (x : Fault).
 pub outside_fails : {X : Type 0} (view : X → Rows) (answer : Answer Rows) (result : Result X Fault) (f : Fault) → IsErrAnd result (λ e. e ≡ f) → IsOutside f → AnswersOrFails view answer result
 outside_fails view answer (Ok x) f is outside = absurd is
 outside_fails view answer (Err e) f is outside = inl (subst IsOutside (sym is) outside)
+
+-- a refusal that a call hands on has its cause
+pub handed_on : {X : Type 0} (P : X → Type 0) (Q : Fault → Type 0) (r : Result X Fault) (f : Fault) → IsErrAnd r (λ e. e ≡ f) → Q f → MatchResult r P Q
+handed_on P Q (Ok x) f is why = absurd is
+handed_on P Q (Err e) f is why = subst Q (sym is) why

@@ -1,10 +1,10 @@
 -- What a CREATE TABLE comes to on the database that pages hold.
-use Rattle.std.proofs.Common.{◌≡◌, ◌⊎◌, ◌≤◌, inl, inr, refl, sym, ap, subst, ◌∙◌, ℕ, ℤ, Bool, true, false, not, ◌||◌, cond, codes, map, List, [], ◌∷◌, ◌++◌, length, Option, None, Some, Result, Ok, Err, arith}
+use Rattle.std.proofs.Common.{◌≡◌, ◌⊎◌, ◌≤◌, inl, inr, refl, sym, ap, subst, ◌∙◌, ℕ, ℤ, Bool, true, false, not, ◌||◌, cond, codes, map, List, [], ◌∷◌, ◌++◌, length, take, Option, None, Some, Result, Ok, Err, arith}
 use Rattle.std.specs.Prelude.{Contains, IfErr, IsErrAnd, MatchResult, IfOk, flat_map, is_some, option_map}
 use Rattle.std.specs.List as list
-use Rattle.std.specs.List.{list_any}
+use Rattle.std.specs.List.{AllByRecursion, list_any}
 use Rattle.sqlval.specs.Lists.{any_twice}
-use Rattle.sqlval.specs.Names.{is_same_name}
+use Rattle.sqlval.specs.Names.{folded, is_same_name}
 use Rattle.sqlval.specs.PageSizes.{IsPageSize}
 use Rattle.sqlval.specs.Refusals.{Refusal, refusal_of}
 use Rattle.sqlval.specs.declared.fault.Fault.{Fault}
@@ -14,6 +14,7 @@ use Rattle.sql_syntax.specs.declared.create.TableDefinition.{TableDefinition}
 use Rattle.sql_syntax.specs.declared.statement.Statement.{Statement}
 use Rattle.sql_syntax.specs.declared.statement.Statement.TheVariants as statement
 use Rattle.record.specs.Record.{IsRecord}
+use Rattle.record.specs.Writing.{AreStorable}
 use Rattle.pages.specs.Calls.{IsOutsideOrFull}
 use Rattle.pages.specs.Counting.{occurs}
 use Rattle.pages.specs.Map.{PageMap}
@@ -23,28 +24,36 @@ use Rattle.tree_table.specs.Freeing.{IsNewTree}
 use Rattle.tree_table.specs.Rows.{payload_at, with_row}
 use Rattle.tree_table.proofs.LeafTrees.{root_there}
 use Rattle.db_layout.specs.Layout.{ReplacesTrees, TreesStand}
-use Rattle.catalog.specs.Database.{Database, Name, Object, ATable, with_object}
+use Rattle.catalog.specs.Database.{AnIndex, ATable, Database, Name, Object, with_object}
 use Rattle.catalog.specs.Laws.{KeepsOnlyPlain}
-use Rattle.catalog.specs.Listed.{Lists, has_index, has_table_name, is_name_of, is_table, named_among, names_of, objects_of, with_rows, table_named}
+use Rattle.catalog.specs.Listed.{Lists, as_index, has_index, has_table_name, is_name_of, is_reserved, is_table, key_columns, named_among, names_of, objects_of, with_replaced, with_rows, table_named}
 use Rattle.catalog.specs.Named.{IsOfTables, KeepsNamed}
 use Rattle.catalog.specs.NewTables.{ListsNewTable}
 use Rattle.catalog.specs.UnusedRowids.{is_among}
 use Rattle.catalog.specs.Listed.{rowids_of}
+use Rattle.catalog.specs.declared.tables.Column.{Column}
 use Rattle.catalog.specs.declared.tables.Index.{Index}
 use Rattle.catalog.specs.declared.tables.Table.{Table}
 use Rattle.catalog.proofs.Found.{names_found}
-use Rattle.query_names.specs.Checked.{Checked, Meant, faults}
-use Rattle.query_names.specs.Creating.{IsCreateRefusal, has_no_keys}
-use Rattle.query_names.specs.Schema.{create}
-use Rattle.query_names.proofs.CreatedTables.{makes_table, refuses_table}
+use Rattle.query_names.specs.Checked.{Checked, Meant, faults, good}
+use Rattle.query_names.specs.Bound.{IsFaultOf, is_twice_named}
+use Rattle.query_names.specs.Creating.{IsCreateRefusal, defined, described, has_doubled, has_rowid_key, table_keys_known}
+use Rattle.query_names.specs.Schema.{automatic, automatic_name, create, with_objects}
+use Rattle.query_names.proofs.CreatedTables.{makes_table, named_columns, refuses_table}
 use Rattle.row_scan.specs.Rows.{TableRow}
-use Rattle.db_pages.specs.Schema.{AreRowsOf, IndexTold, IsCreateOf, IsTableRow, TableTold, all_told, schema_row}
+use Rattle.db_pages.specs.Reordering.{AreReordered}
+use Rattle.db_pages.specs.Schema.{AreRowsOf, HasKeyIndexes, IndexTold, IsCreateOf, IsTableRow, TableTold, all_told, automatic_objects, due_objects, schema_row}
+use Rattle.db_pages.proofs.Reordering.{reordered_is, reordered_refl}
 use Rattle.db_pages.specs.Stored.{Stores}
 use Rattle.executor.specs.Changing.{IsChangeRefusal, IsMade}
 use Rattle.executor.specs.Listing.{AreTooLong, IsAdded, IsNewTable}
 use Rattle.executor.specs.Works.{Reaches, RefusesWith, change_made, of_known}
-use Rattle.executor.proofs.FoundTables.{names, names_are, neither, no_no}
-use Rattle.executor.proofs.HeldTrees.{HoldsTrees, none_there, page_size, rows_with, schema_stands, stores_of, trees_held, with_schema, with_table}
+use Rattle.executor.proofs.FoundTables.{names, names_are, neither, no_no, same_bytes}
+use Rattle.executor.specs.Holding.{AreNewNames, HoldsListed, HoldsTrees, IsKeyRefusal, IsKeyed}
+use Rattle.executor.proofs.HeldTrees.{none_there, page_size, rows_here, rows_with, schema_stands, stored_of, trees_held, with_schema, with_table}
+use Rattle.executor.proofs.KeyCreations.{all_automatic, take_due}
+use Rattle.executor.proofs.KeyIndexes.{all_replaced, wide_keys}
+use Rattle.executor.proofs.NewNames.{automatic_names_are_new, not_reserved}
 use Rattle.executor.proofs.Replacing.{turned}
 use Rattle.executor.proofs.Roots.{found_root, roots_of}
 use Rattle.executor.proofs.Telling.{as_rows, as_told, free_at, more_pages, one_more}
@@ -66,11 +75,19 @@ refused_work : (k : Checked Database) (r : Refusal) → Contains (faults k) r �
 refused_work (Meant db []) r has = absurd (omega (arith, has.1))
 refused_work (Meant db (s ∷ rs)) r has = has
 
-pub reached : (sql : List ℕ) (db : Database) (rows_at : ℕ → List TableRow) (tables : List Table) (d : TableDefinition) (t : Table) → IsOfTables rows_at tables db → has_no_keys d ≡ true → IsNewTable tables d t
-    → Reaches (change_made (creating sql d) db) (with_object db d.name (ATable (with_rows t [])))
+-- the database with the table, and with the indexes that its keys ask for
+abbrev pub bare_made : Database → TableDefinition → Table → Database
+bare_made db d t = with_object db d.name (ATable (with_rows t []))
+
+abbrev pub made_of : Database → TableDefinition → Table → Database
+made_of db d t = with_objects (bare_made db d t) (due_objects t)
+
+pub reached : (sql : List ℕ) (db : Database) (rows_at : ℕ → List TableRow) (tables : List Table) (d : TableDefinition) (t : Table) → IsOfTables rows_at tables db → has_rowid_key d ≡ false → IsNewTable tables d t
+    → Reaches (change_made (creating sql d) db) (made_of db d t)
 reached sql db rows_at tables d t of_tables plain new =
-    subst (λ (k : Checked Database). Reaches (of_known k) (with_object db d.name (ATable (with_rows t []))))
-    (sym (makes_table rows_at tables db d t of_tables.lists plain (record { free = new.makes.free; new = new.new; once = new.makes.once }) new.makes.columns new.makes.checks)) refl
+    subst (λ (k : Checked Database). Reaches (of_known k) (made_of db d t))
+    (sym (makes_table rows_at tables db d t of_tables.lists plain (record { free = new.makes.free; new = new.new; once = new.makes.once }) new.makes.columns new.makes.checks new.makes.keys
+    ∙ ap (λ (n : Name). good (with_objects (bare_made db d t) (automatic n 1 (map key_columns t.keys)))) (sym new.makes.name_is))) refl
 
 -- ---- names that none has
 
@@ -136,19 +153,19 @@ module _ (laws : Laws) (old : PageMap) (size : ℕ) (tables : List Table) (db : 
     schema_then = schema_stands mid size (rows_with held.rows_at root []) (t ∷ tables) held.schema then_trees laws.stand
 
     -- its row isn't added
-    pub refused_row : has_no_keys d ≡ true → (f : Fault) → IsOutsideOrFull f ⊎ AreTooLong (schema_row (codes "table") d.name d.name root sql) f → IsChangeRefusal (creating sql d) db f
+    pub refused_row : has_rowid_key d ≡ false → (f : Fault) → IsOutsideOrFull f ⊎ AreTooLong (schema_row (codes "table") d.name d.name root (Some sql)) f → IsChangeRefusal (creating sql d) db f
     refused_row plain f (inl full) = inl full
     refused_row plain f (inr (what, long)) = inr (inr (record {
       is = what;
       why = inr (record {
-        made = with_object db d.name (ATable (with_rows t []));
+        made = made_of db d t;
         reaches = reached sql db held.rows_at tables d t held.of_tables plain new_table;
-        long = (root, long);
+        long = (root, inl long);
       });
     }))
 
-    module _ (plain : has_no_keys d ≡ true) (text : IsCreateOf sql (object.Table d)) (new : PageMap) (unused : is_among t.rowid (rowids_of tables) ≡ false)
-        (added : IsAdded mid new size (schema_row (codes "table") d.name d.name root sql) held.schema held.schema_used tree.now_free t.rowid) where
+    module _ (plain : has_rowid_key d ≡ false) (text : IsCreateOf sql (object.Table d)) (new : PageMap) (unused : is_among t.rowid (rowids_of tables) ≡ false)
+        (added : IsAdded mid new size (schema_row (codes "table") d.name d.name root (Some sql)) held.schema held.schema_used tree.now_free t.rowid) where
       longer : length mid ≤ length new
       longer = added.becomes.moves.longer
 
@@ -156,7 +173,7 @@ module _ (laws : Laws) (old : PageMap) (size : ℕ) (tables : List Table) (db : 
       new_row = record {
         sql = sql;
         definition = d;
-        creates = (text, plain);
+        creates = (text, ap not plain);
         makes = new_table.makes;
         rowid_is = added.rowid_is;
         row_is = record {
@@ -166,7 +183,7 @@ module _ (laws : Laws) (old : PageMap) (size : ℕ) (tables : List Table) (db : 
           name_is = refl;
           table_name = d.name;
           table_name_is = refl;
-          row_is = subst (λ (n : ℕ). IsRecord added.entry.payload (schema_row (codes "table") d.name d.name n sql)) (sym root_is) added.is;
+          row_is = subst (λ (n : ℕ). IsRecord added.entry.payload (schema_row (codes "table") d.name d.name n (Some sql))) (sym root_is) added.is;
         };
       }
 
@@ -205,18 +222,81 @@ module _ (laws : Laws) (old : PageMap) (size : ℕ) (tables : List Table) (db : 
             ∙ (ap (λ b. b || any_twice is_same_name (names_of tables)) (none_named held.rows_at tables t.name new_name) ∙ no_no (any_twice is_same_name (names_of tables)) held.of_tables.once));
       }
 
-      stores_more : Stores new size (t ∷ tables) (with_object db d.name (ATable (with_rows t [])))
-      stores_more =
-          subst (λ (n : Name). Stores new size (t ∷ tables) (with_object db n (ATable (with_rows t [])))) name_is
-          (stores_of new size (rows_with held.rows_at root []) (t ∷ tables) (with_row added.entry held.schema) (with_object db t.name (ATable (with_rows t [])))
-          (with_schema mid size (rows_with held.rows_at root []) (t ∷ tables) held.schema then_trees laws.give_way new (with_row added.entry held.schema) added.becomes) of_more told)
-
-      pub creates : (listed : List Table) → listed ≡ t ∷ tables → has_no_keys d ≡ true → IsMade (creating sql d) db new size listed
-      creates listed same no_rules = record {
-        made = with_object db d.name (ATable (with_rows t []));
-        reaches = reached sql db held.rows_at tables d t held.of_tables no_rules new_table;
-        stored = subst (λ ts. Stores new size ts (with_object db d.name (ATable (with_rows t [])))) (sym same) stores_more;
+      -- the pages hold the table, without the indexes of its keys
+      abbrev holds_more : HoldsListed new size (t ∷ tables) (bare_made db d t)
+      holds_more = record {
+        rows_at = rows_with held.rows_at root [];
+        of_tables = subst (λ (n : Name). IsOfTables (rows_with held.rows_at root []) (t ∷ tables) (with_object db n (ATable (with_rows t [])))) name_is of_more;
+        schema = with_row added.entry held.schema;
+        tell = told;
+        trees = with_schema mid size (rows_with held.rows_at root []) (t ∷ tables) held.schema then_trees laws.give_way new (with_row added.entry held.schema) added.becomes;
       }
+
+      named_first : table_named t.name (t ∷ tables) ≡ Some t
+      named_first = ap (λ (b : Bool). cond b (Some t) (table_named t.name tables)) (same_bytes (folded t.name))
+
+      -- nor has it rows, and the names of those indexes are new
+      new_names : AreNewNames (t ∷ tables) t.name
+      new_names number =
+          ap (λ (b : Bool). (b || has_index (folded (automatic_name t.name number)) t) || is_name_of tables (folded (automatic_name t.name number)))
+          (not_reserved t.name t.name number (subst (λ (n : Name). is_reserved n ≡ false) (sym name_is) new_table.makes.free))
+          ∙ (ap (λ (is : List Index). list_any (λ (i : Index). is_same_name i.name (folded (automatic_name t.name number))) is || is_name_of tables (folded (automatic_name t.name number))) new_table.bare
+          ∙ automatic_names_are_new (length old) tables held.schema held.tell held.keys t.name new_name number)
+
+      -- what listing the indexes of its keys comes to
+      pub lists_keys : {X : Type 0} (tables_by : X → List Table) (last : PageMap) (listed : List Table) → listed ≡ t ∷ tables → (result : Result X Fault)
+          → ((db : Database) (held : HoldsListed new size listed db) (table : Table) → table_named d.name listed ≡ Some table → table.indexes ≡ [] → held.rows_at table.root ≡ [] → AreNewNames listed table.name
+          → MatchResult result (λ x. IsKeyed last size listed db table (length table.keys) (tables_by x)) (IsKeyRefusal table))
+          → MatchResult result (λ x. IsKeyed last size (t ∷ tables) (bare_made db d t) t (length t.keys) (tables_by x)) (IsKeyRefusal t)
+      lists_keys tables_by last listed same result lists =
+          subst (λ (ts : List Table). (db : Database) (held : HoldsListed new size ts db) (table : Table) → table_named d.name ts ≡ Some table → table.indexes ≡ [] → held.rows_at table.root ≡ [] → AreNewNames ts table.name
+          → MatchResult result (λ x. IsKeyed last size ts db table (length table.keys) (tables_by x)) (IsKeyRefusal table)) same lists
+          (bare_made db d t) holds_more t
+          (subst (λ (n : Name). table_named n (t ∷ tables) ≡ Some t) name_is named_first)
+          new_table.bare (rows_here held.rows_at root t.root [] root_is) new_names
+
+-- ---- the indexes of its keys are listed
+
+module _ (old : PageMap) (size : ℕ) (tables : List Table) (db : Database) (held : Stores old size tables db) (sql : List ℕ) (d : TableDefinition) (plain : has_rowid_key d ≡ false) (t : Table) (new_table : IsNewTable tables d t)
+    (last : PageMap) where
+  -- the table with its indexes has those that its keys ask for
+  keys_are : (after : List Table) → (k : IsKeyed last size (t ∷ tables) (bare_made db d t) t (length t.keys) after) → HasKeyIndexes k.keyed
+  keys_are after k = reordered_is (automatic_objects k.keyed) (automatic_objects k.keyed) (due_objects k.keyed) (objects_are ∙ due_same) (reordered_refl (automatic_objects k.keyed))
+    where
+      due_same : due_objects t ≡ due_objects k.keyed
+      due_same = sym (ap due_objects k.alike)
+
+      objects_are : automatic_objects k.keyed ≡ due_objects t
+      objects_are =
+          ap (λ (is : List Index). map (λ (i : Index). (i.name, AnIndex (as_index k.keyed i))) is) (all_automatic k.keyed.indexes k.automatic)
+          ∙ (ap (λ (u : Table). map (λ (i : Index). (i.name, AnIndex (as_index u i))) k.keyed.indexes) k.alike
+          ∙ (k.keys ∙ take_due t))
+
+  pub refused_keys : (f : Fault) → IsKeyRefusal t f → IsChangeRefusal (creating sql d) db f
+  refused_keys f (inl full) = inl full
+  refused_keys f (inr (inl (what, wide))) = inr (inr (record { is = what; why = inl (sym (wide_keys d t new_table.makes.keys) ∙ wide) }))
+  refused_keys f (inr (inr (number, root, (what, long)))) = inr (inr (record {
+    is = what;
+    why = inr (record {
+      made = made_of db d t;
+      reaches = reached sql db held.rows_at tables d t held.of_tables plain new_table;
+      long = (root, inr (number, subst (λ (n : Name). AreStorable (schema_row (codes "index") (automatic_name n number) n root None) → ⊥) new_table.makes.name_is long));
+    });
+  }))
+
+  pub creates : (after : List Table) → IsKeyed last size (t ∷ tables) (bare_made db d t) t (length t.keys) after → IsMade (creating sql d) db last size after
+  creates after k = record {
+    made = made_of db d t;
+    reaches = reached sql db held.rows_at tables d t held.of_tables plain new_table;
+    stored = subst (λ (os : List (Name × Object)). Stores last size after (with_objects (bare_made db d t) os)) (take_due t) (stored_of last size after (with_objects (bare_made db d t) (take (length t.keys) (due_objects t))) k.holds keys);
+  }
+    where
+      same_name : is_same_name t.name k.keyed.name ≡ true
+      same_name = subst (λ (n : Name). is_same_name t.name n ≡ true) (sym (ap (λ (u : Table). u.name) k.alike)) (same_bytes (folded t.name))
+
+      keys : AllByRecursion HasKeyIndexes after
+      keys = subst (AllByRecursion HasKeyIndexes) (sym (k.listed ∙ ap (λ (b : Bool). cond b k.keyed t ∷ with_replaced k.keyed tables) same_name))
+          (keys_are after k, all_replaced HasKeyIndexes k.keyed tables (keys_are after k) held.keys)
 
 -- ---- calls that pass a refusal on
 
@@ -228,3 +308,22 @@ handed_on P Q (Err e) f is why = subst Q (sym is) why
 pub taken : {X : Type 0} (Listed Made : X → Type 0) (Q : Fault → Type 0) (r : Result X Fault) → IfOk r Listed → IfErr r (λ f. f ≡ fault.Memory) → ((x : X) → Listed x → Made x) → Q fault.Memory → MatchResult r Made Q
 taken Listed Made Q (Ok x) listed memory make short = make x listed
 taken Listed Made Q (Err f) listed memory make short = subst Q (sym memory) short
+
+-- what a call comes to, in other words
+pub turned_result : {X : Type 0} {P Q : X → Type 0} {S T : Fault → Type 0} (r : Result X Fault) → MatchResult r P S → ((x : X) → P x → Q x) → ((f : Fault) → S f → T f) → MatchResult r Q T
+turned_result (Ok x) p make why = make x p
+turned_result (Err f) p make why = why f p
+
+pub refused_by : {X : Type 0} (Q : Fault → Type 0) (r : Result X Fault) (f : Fault) → IsErrAnd r (λ e. e ≡ f) → Q f → IfErr r Q
+refused_by Q (Ok x) f is why = absurd is
+refused_by Q (Err e) f is why = subst Q (sym is) why
+
+-- the columns of a definition without doubled ones have different names
+pub columns_alone : (d : TableDefinition) (columns : List Column) → map described columns ≡ map defined d.columns → has_doubled d.columns ≡ false → is_twice_named columns ≡ false
+columns_alone d columns same once = ap (any_twice is_same_name) (named_columns d.columns columns same) ∙ once
+
+-- why its keys are refused is why it is
+pub why_keys : (tables : List Table) (d : TableDefinition) (columns : List Column) (f : Fault) → map described columns ≡ map defined d.columns → IsFaultOf (faults (table_keys_known d columns)) f
+    → (f ≡ fault.Memory) ⊎ IsCreateRefusal tables d (refusal_of f)
+why_keys tables d columns f same (inl memory) = inl memory
+why_keys tables d columns f same (inr has) = inr (inr (inr (inr (inr (columns, same, inr has)))))

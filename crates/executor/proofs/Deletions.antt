@@ -38,7 +38,8 @@ use Rattle.db_pages.specs.Stored.{Stores, all_trees, schema_tree}
 use Rattle.executor.specs.Works.{Reaches, RefusesWith, change_made, of_answer}
 use Rattle.executor.proofs.Insertions.{listed_table, named_folded}
 use Rattle.executor.proofs.Owners.{HasTable}
-use Rattle.executor.proofs.HeldTrees.{HoldsTrees, among, page_size, rows_with, stores_rows, held_table, trees_held}
+use Rattle.executor.specs.Holding.{HoldsTrees}
+use Rattle.executor.proofs.HeldTrees.{among, page_size, rows_with, stores_rows, held_table, trees_held}
 use Rattle.executor.proofs.Roots.{own_pages}
 
 -- what follows for every listed database, and for the trees of its file

@@ -24,14 +24,16 @@ use Rattle.query_names.specs.Checked.{Checked, Meant, faults}
 use Rattle.query_names.specs.Schema.{dropped, goes_with}
 use Rattle.row_scan.proofs.TreeOrder.{tree_rises}
 use Rattle.db_write.specs.Changing.{DropsTrees}
-use Rattle.db_pages.specs.Schema.{AreRowsOf, Told, all_told, told_by}
+use Rattle.db_pages.specs.Schema.{AreRowsOf, HasKeyIndexes, Told, all_told, told_by}
 use Rattle.db_pages.specs.Stored.{Stores, all_trees, schema_tree}
 use Rattle.executor.specs.Changing.{IsChangeRefusal, IsMade}
 use Rattle.executor.specs.Listing.{AreThere, without_rows}
 use Rattle.executor.specs.Works.{Reaches, RefusesWith, change_made, of_known}
 use Rattle.executor.proofs.FoundTables.{table_found}
-use Rattle.executor.proofs.HeldTrees.{HoldsTrees, among, page_size, schema_stands, stores_of, trees_held, with_schema}
+use Rattle.executor.specs.Holding.{HoldsTrees}
+use Rattle.executor.proofs.HeldTrees.{among, page_size, schema_stands, stores_of, trees_held, with_schema}
 use Rattle.executor.proofs.HeldTrees as held_trees
+use Rattle.executor.proofs.KeyIndexes.{all_without}
 use Rattle.executor.proofs.Owners.{HasTable, table_of_parts}
 use Rattle.executor.proofs.Replacing.{IsSplit, found_is, names_once, split_at}
 use Rattle.executor.proofs.SchemaRows.{rising_distinct}
@@ -57,7 +59,7 @@ both_hold : (a b : Bool) → (a && b) ≡ true → (a ≡ true) × (b ≡ true)
 both_hold true b h = (refl, h)
 both_hold false b h = absurd (false≢true h)
 
--- of a database of tables and plain indexes a DROP takes the table of its name and its indexes
+-- of a database of tables and indexes a DROP takes the table of its name and its indexes
 pub goes_alone : (n : Name) (db : Database) → has_only_plain db ≡ true → filter (λ x. not (goes_with n x)) db ≡ without_table_object n db
 goes_alone n [] only = refl
 goes_alone n ((name, ATable t) ∷ es) only = by_test (is_same_name n name) (goes_alone n es (both_hold true (has_only_plain es) only).1)
@@ -66,7 +68,7 @@ goes_alone n ((name, ATable t) ∷ es) only = by_test (is_same_name n name) (goe
         → cond (not b) ((name, ATable t) ∷ filter (λ x. not (goes_with n x)) es) (filter (λ x. not (goes_with n x)) es) ≡ cond (not b) ((name, ATable t) ∷ without_table_object n es) (without_table_object n es)
     by_test true rest = rest
     by_test false rest = ap (λ (xs : Database). (name, ATable t) ∷ xs) rest
-goes_alone n ((name, AnIndex i) ∷ es) only = by_test (is_same_name n name || is_same_name n i.table) (goes_alone n es (both_hold (not i.is_automatic) (has_only_plain es) only).1)
+goes_alone n ((name, AnIndex i) ∷ es) only = by_test (is_same_name n name || is_same_name n i.table) (goes_alone n es (both_hold true (has_only_plain es) only).1)
   where
     by_test : (b : Bool) → filter (λ x. not (goes_with n x)) es ≡ without_table_object n es
         → cond (not b) ((name, AnIndex i) ∷ filter (λ x. not (goes_with n x)) es) (filter (λ x. not (goes_with n x)) es) ≡ cond (not b) ((name, AnIndex i) ∷ without_table_object n es) (without_table_object n es)
@@ -91,7 +93,7 @@ module _ (finds : FindsListed) (old : PageMap) (size : ℕ) (tables : List Table
     where
       by : IsNoTable (object db n) → refuses_kind db kind.Table n (object db n)
       by (inl nothing) = subst (refuses_kind db kind.Table n) (sym nothing) (0, omega arith, refl)
-      by (inr (i, is, unique)) = subst (refuses_kind db kind.Table n) (sym is) (0, omega arith, refl)
+      by (inr (i, is)) = subst (refuses_kind db kind.Table n) (sym is) (0, omega arith, refl)
 
   -- there are no objects but tables and indexes
   pub no_other : (k : ObjectKind) → (k ≡ kind.Table → ⊥) → (k ≡ kind.Index → ⊥) → (f : Fault) → (f ≡ fault.Memory) ⊎ (refusal_of f ≡ NoSuch) → IsChangeRefusal (dropping k n) db f
@@ -116,7 +118,7 @@ module _ (finds : FindsListed) (old : PageMap) (size : ℕ) (tables : List Table
       by : (t : Option Table) → MatchOption t (IsNoTable (object db n)) (λ t. object db n ≡ Some (ATable (with_rows t (held.rows_at t.root)))) → refuses_kind db k n (object db n)
       by (Some t) e = subst (refuses_kind db k n) (sym e) (on_table k other (ATable (with_rows t (held.rows_at t.root))) (with_rows t (held.rows_at t.root)) refl)
       by None (inl none) = subst (refuses_kind db k n) (sym none) (nothing k)
-      by None (inr (i, is, unique)) = subst (refuses_kind db k n) (sym is) (on_index k and i)
+      by None (inr (i, is)) = subst (refuses_kind db k n) (sym is) (on_index k and i)
 
   no_name : (ts : List Table) → table_named n ts ≡ None → table_with_index n ts ≡ None → is_name_of ts n ≡ false
   no_name [] none and = refl
@@ -142,7 +144,7 @@ module _ (finds : FindsListed) (old : PageMap) (size : ℕ) (tables : List Table
       by : (t : Option Table) → table_named n tables ≡ t → MatchOption t (IsNoTable (object db n)) (λ t. object db n ≡ Some (ATable (with_rows t (held.rows_at t.root)))) → refuses_kind db kind.Index n (object db n)
       by (Some t) named e = subst (refuses_kind db kind.Index n) (sym e) (0, omega arith, refl)
       by None named (inl nothing) = subst (refuses_kind db kind.Index n) (sym nothing) (0, omega arith, refl)
-      by None named (inr (i, e, unique)) = absurd (not_there named i e)
+      by None named (inr (i, e)) = absurd (not_there named i e)
 
 -- ---- a table that goes
 
@@ -202,7 +204,8 @@ module _ (laws : Laws) (old : PageMap) (size : ℕ) (tables : List Table) (db : 
               (stores_of new size held.rows_at (without_table n tables) schema_left (without_table_object n db)
               (subst (λ (ts : List Table). HoldsTrees new size held.rows_at ts schema_left) others (held_trees.dropped mid size held.rows_at tables schema_left then_trees t o new left))
               (laws.others held.rows_at tables db n t held.of_tables named)
-              (subst (λ (ts : List Table). AreRowsOf (length new) ts schema_left) others tell));
+              (subst (λ (ts : List Table). AreRowsOf (length new) ts schema_left) others tell)
+              (all_without HasKeyIndexes n tables held.keys));
         }
 
     pub not_given : (new : PageMap) (f : Fault) → DropsTrees mid new size t (Err f) → IsChangeRefusal (dropping kind.Table n) db f

@@ -1,7 +1,7 @@
 -- The trees of a file's tables, whatever its schema table tells, and how they come out of a change.
 use Rattle.std.proofs.Common.{◌≡◌, ◌≤◌, ◌+◌, refl, sym, ap, subst, ◌∙◌, ℕ, Bool, true, false, List, [], ◌∷◌, ◌++◌, length, ◌==◌, cond, Some, arith}
 use Rattle.std.proofs.lemmas.Bool.Decides.{nat_tests}
-use Rattle.std.specs.List.{find}
+use Rattle.std.specs.List.{AllByRecursion, find}
 use Rattle.std.specs.Str.{bytes_eq}
 use Rattle.sqlval.specs.Names.{folded}
 use Rattle.std.proofs.lemmas.List.{append-nil}
@@ -26,8 +26,9 @@ use Rattle.row_scan.specs.Rows.{TableRow}
 use Rattle.db_layout.specs.Trees.{AreAmong, AreTreesOf, HoldsNow, IsEntriesTree}
 use Rattle.db_write.specs.Changing.{HoldsFitRows}
 use Rattle.db_write.specs.Turning.{AreLeft}
-use Rattle.db_pages.specs.Schema.{AreRowsOf, all_told}
+use Rattle.db_pages.specs.Schema.{AreRowsOf, HasKeyIndexes, all_told}
 use Rattle.db_pages.specs.Stored.{AreHeld, Stores, all_trees, schema_tree}
+use Rattle.executor.specs.Holding.{HoldsListed, HoldsTrees}
 use Rattle.executor.proofs.Owners.{HasTable, found_among, joins, table_of_parts, trees_append, trees_around}
 use Rattle.executor.proofs.Roots.{roots_of, roots_once, roots_used}
 use Rattle.executor.proofs.Telling.{as_rows, as_told, more_pages, once_told}
@@ -85,17 +86,6 @@ roots_append n (t ∷ front) back = let rest = roots_append n front back in omeg
 
 -- ---- the trees of a file
 
--- the pages hold the schema table with these rows, and the trees of these tables; each page is used once
-pub record HoldsTrees (map : PageMap) (size : ℕ) (rows_at : ℕ → List TableRow) (tables : List Table) (schema : List Entry) : Type 0 where
-  pub header : Header
-  pub header_is : IsHeader (page_at map 1) header
-  pub sized : header.page_size ≡ size
-  pub schema_used : List ℕ
-  pub held : List (List Owner)
-  pub free : List ℕ
-  pub each : Pairwise (AreHeld rows_at) tables held
-  pub shared : AreShared map size (schema_tree schema schema_used ∷ all_trees held) free
-
 abbrev pub trees_held : (map : PageMap) (size : ℕ) (tables : List Table) (db : Database) (stored : Stores map size tables db) → HoldsTrees map size stored.rows_at tables stored.schema
 trees_held map size tables db stored = record {
   header = stored.header;
@@ -108,13 +98,18 @@ trees_held map size tables db stored = record {
   shared = stored.shared;
 }
 
+abbrev pub listed_held : (map : PageMap) (size : ℕ) (tables : List Table) (db : Database) (stored : Stores map size tables db) → HoldsListed map size tables db
+listed_held map size tables db stored =
+    record { rows_at = stored.rows_at; of_tables = stored.of_tables; schema = stored.schema; tell = stored.tell; trees = trees_held map size tables db stored }
+
 -- with rows of the schema table that tell the tables, they are a database
 pub stores_of : (map : PageMap) (size : ℕ) (rows_at : ℕ → List TableRow) (tables : List Table) (schema : List Entry) (db : Database) → HoldsTrees map size rows_at tables schema
-    → IsOfTables rows_at tables db → AreRowsOf (length map) tables schema → Stores map size tables db
-stores_of map size rows_at tables schema db h of_tables tell = record {
+    → IsOfTables rows_at tables db → AreRowsOf (length map) tables schema → AllByRecursion HasKeyIndexes tables → Stores map size tables db
+stores_of map size rows_at tables schema db h of_tables tell keys = record {
   rows_at = rows_at;
   of_tables = of_tables;
   once = once_told (length map) tables schema tell;
+  keys = keys;
   header = h.header;
   header_is = h.header_is;
   sized = h.sized;
@@ -126,6 +121,10 @@ stores_of map size rows_at tables schema db h of_tables tell = record {
   each = h.each;
   shared = h.shared;
 }
+
+-- and so do these, where each key has its index
+abbrev pub stored_of : (map : PageMap) (size : ℕ) (tables : List Table) (db : Database) → HoldsListed map size tables db → AllByRecursion HasKeyIndexes tables → Stores map size tables db
+stored_of map size tables db held keys = stores_of map size held.rows_at tables held.schema db held.trees held.of_tables held.tell keys
 
 -- ---- changes
 
@@ -292,6 +291,7 @@ stores_rows map new size tables db made stored t rows o now of_tables =
     (changed map size stored.rows_at tables stored.schema (trees_held map size tables db stored) t o new t rows refl now.fit now.holds))
     of_tables
     (as_rows (length new) tables (all_told tables) stored.schema refl (more_pages (length map) (length new) now.holds.longer (all_told tables) stored.schema (as_told (length map) tables stored.schema stored.tell)))
+    stored.keys
 
 pub named_as : (tables : List Table) (a b : Name) → folded a ≡ folded b → table_named a tables ≡ table_named b tables
 named_as tables a b e = ap (λ n. find (λ t. bytes_eq (folded t.name) n) tables) e

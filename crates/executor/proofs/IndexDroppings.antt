@@ -1,5 +1,5 @@
 -- What a DROP INDEX comes to on the database that pages hold.
-use Rattle.std.proofs.Common.{◌≡◌, ◌≤◌, inl, refl, sym, ap, subst, ◌∙◌, ℕ, Bool, true, false, cond, map, not, filter, ◌&&◌, ◌||◌, List, [], ◌∷◌, ◌++◌, append_assoc, length, Option, Some, None, Ok, Err, arith}
+use Rattle.std.proofs.Common.{◌≡◌, ◌≤◌, inl, inr, refl, sym, ap, subst, ◌∙◌, ℕ, Bool, true, false, cond, map, not, filter, ◌&&◌, ◌||◌, List, [], ◌∷◌, ◌++◌, append_assoc, length, Option, Some, None, Ok, Err, arith}
 use Rattle.std.specs.Prelude.{flat_map, option_map}
 use Rattle.std.proofs.lemmas.Bool.{false≢true}
 use Rattle.std.proofs.lemmas.Map.Lookups.{exact_bytes}
@@ -12,7 +12,10 @@ use Rattle.std.specs.Ordering.{eq_by_cmp, is_eq, is_lt}
 use Rattle.std.specs.declared.cmp.Ordering.{Ordering}
 use Rattle.std.specs.declared.cmp.Ordering.TheVariants.{Less, Equal, Greater}
 use Rattle.sqlval.specs.Names.{folded, is_same_name}
+use Rattle.sqlval.specs.Refusals.{Misuse}
 use Rattle.sqlval.specs.declared.fault.Fault.{Fault}
+use Rattle.sqlval.specs.declared.fault.Fault.TheVariants as fault
+use Rattle.sqlval.specs.declared.fault.Misuse as misuse
 use Rattle.sql_syntax.specs.declared.statement.ObjectKind.TheVariants as kind
 use Rattle.tree_leaf.specs.Leaf.{Entry}
 use Rattle.pages.specs.Map.{PageMap}
@@ -27,20 +30,23 @@ use Rattle.catalog.specs.declared.tables.Index.{Index}
 use Rattle.catalog.specs.declared.tables.Table.{Table}
 use Rattle.catalog.proofs.Found.{as_object, index_found, listed_as}
 use Rattle.catalog.proofs.NamedDatabases.{folded_twice, in_order, same_test}
+use Rattle.query_names.specs.Checked.{good, unless}
 use Rattle.query_names.specs.Schema.{dropped, goes_with}
 use Rattle.row_scan.proofs.TreeOrder.{tree_rises}
 use Rattle.row_scan.specs.Rows.{TableRow}
 use Rattle.db_layout.specs.Layout.{Owner, ReplacesTrees, TreesStand}
 use Rattle.db_layout.specs.Trees.{AreAmong}
 use Rattle.db_write.specs.Changing.{FreesIndex, with_indexes}
-use Rattle.db_pages.specs.Schema.{AreRowsOf, IndexTold, TableTold, Told, all_told, told_by}
+use Rattle.db_pages.specs.Schema.{AreRowsOf, HasKeyIndexes, IndexTold, TableTold, Told, all_told, told_by}
 use Rattle.db_pages.specs.Stored.{Stores, all_trees, schema_tree}
 use Rattle.executor.specs.Changing.{IsChangeRefusal, IsIndexIn, IsMade}
-use Rattle.executor.specs.Works.{Reaches, change_made, of_known}
+use Rattle.executor.specs.Works.{Reaches, RefusesWith, change_made, of_known}
 use Rattle.executor.proofs.Droppings.{dropping}
 use Rattle.executor.proofs.FoundTables.{indexes_listed, same_bytes}
-use Rattle.executor.proofs.HeldTrees.{HoldsTrees, among, changed, page_size, rows_with, schema_stands, stores_of, trees_held, with_schema}
-use Rattle.executor.proofs.IndexCreations.{rows_same}
+use Rattle.executor.specs.Holding.{HoldsTrees}
+use Rattle.executor.proofs.HeldTrees.{among, changed, page_size, rows_with, schema_stands, stores_of, trees_held, with_schema}
+use Rattle.executor.proofs.IndexListings.{rows_same}
+use Rattle.executor.proofs.KeyIndexes.{all_replaced, keys_without_index}
 use Rattle.executor.proofs.Owners.{HasTable, one_of, table_of_parts}
 use Rattle.executor.proofs.Replacing.{IsSplit, IsSplitAt, folded_same, found_is, indexes_once, names_once, same_folded, split_at, split_index}
 use Rattle.executor.proofs.SchemaRows.{rising_distinct}
@@ -150,7 +156,7 @@ module _ (n : Name) where
         by_test true rest = rest
         by_test false rest = ap (λ (xs : Database). (name, ATable t) ∷ xs) rest
     goes_index ((name, AnIndex j) ∷ es) only each =
-        by_test (is_same_name n name) (is_same_name n j.table) refl (goes_index es (both_hold (not j.is_automatic) (has_only_plain es) only).1 each.1)
+        by_test (is_same_name n name) (is_same_name n j.table) refl (goes_index es (both_hold true (has_only_plain es) only).1 each.1)
       where
         by_test : (b c : Bool) → is_same_name n j.table ≡ c → filter (λ x. not (goes_with n x)) es ≡ without_object n es
             → cond (not (b || c)) ((name, AnIndex j) ∷ filter (λ x. not (goes_with n x)) es) (filter (λ x. not (goes_with n x)) es) ≡ cond (not b) ((name, AnIndex j) ∷ without_object n es) (without_object n es)
@@ -162,13 +168,13 @@ module _ (n : Name) where
 
 -- ---- an index that goes
 
-module _ (laws : Laws) (old : PageMap) (size : ℕ) (tables : List Table) (db : Database) (held : Stores old size tables db) (n : Name) (t : Table) (i : Index)
+module _ (old : PageMap) (size : ℕ) (tables : List Table) (db : Database) (held : Stores old size tables db) (n : Name) (t : Table) (i : Index)
     (on : table_with_index n tables ≡ Some t) (found : find (λ (j : Index). is_same_name j.name n) t.indexes ≡ Some i) where
   abbrev trees : HoldsTrees old size held.rows_at tables held.schema
   trees = trees_held old size tables db held
 
-  pub schema_stand : Stands old size 1 held.schema held.schema_used held.free
-  schema_stand = schema_stands old size held.rows_at tables held.schema trees laws.stand
+  pub schema_stand : Laws → Stands old size 1 held.schema held.schema_used held.free
+  schema_stand laws = schema_stands old size held.rows_at tables held.schema trees laws.stand
 
   pub split : IsSplit t tables
   split = split_at (has_index n) tables t (names_once tables held.of_tables.once) on
@@ -209,9 +215,25 @@ module _ (laws : Laws) (old : PageMap) (size : ℕ) (tables : List Table) (db : 
       by None e = refl
       by (Some u) e = absurd cc
 
-  reached : Reaches (change_made (dropping kind.Index n) db) (without_object n db)
-  reached = subst (λ (x : Option Object). Reaches (of_known (dropped db kind.Index n x)) (without_object n db)) (sym found_as)
-      (goes_index n held.rows_at tables db held.of_tables.lists not_table db held.of_tables.only (each_found db held.of_tables.named))
+  -- all but the index, whether or not it may be dropped
+  abbrev others_left : Database
+  others_left = filter (λ x. not (goes_with n x)) db
+
+  reached : i.is_automatic ≡ false → Reaches (change_made (dropping kind.Index n) db) (without_object n db)
+  reached written = subst (λ (x : Option Object). Reaches (of_known (dropped db kind.Index n x)) (without_object n db)) (sym found_as)
+      (subst (λ (b : Bool). Reaches (of_known (unless b Misuse (good others_left))) (without_object n db)) (sym written)
+      (goes_index n held.rows_at tables db held.of_tables.lists not_table db held.of_tables.only (each_found db held.of_tables.named)))
+
+  -- an automatic index isn't dropped
+  pub refused_automatic : i.is_automatic ≡ true → (why : misuse.Misuse) → IsChangeRefusal (dropping kind.Index n) db (fault.Misuse why)
+  refused_automatic automatic why = inr (inl (subst (λ (x : Option Object). RefusesWith (of_known (dropped db kind.Index n x)) Misuse) (sym found_as)
+      (subst (λ (b : Bool). RefusesWith (of_known (unless b Misuse (good others_left))) Misuse) (sym automatic) (0, omega arith, refl))))
+
+  -- the automatic indexes of the table stay
+  keys_left : i.is_automatic ≡ false → AllByRecursion HasKeyIndexes (with_replaced (without_index n t) tables)
+  keys_left written =
+      all_replaced HasKeyIndexes (without_index n t) tables
+      (keys_without_index n t i at named_so written (one_of HasKeyIndexes split.before t split.after (subst (AllByRecursion HasKeyIndexes) split.parts held.keys))) held.keys
 
   -- ---- its row
 
@@ -260,7 +282,7 @@ module _ (laws : Laws) (old : PageMap) (size : ℕ) (tables : List Table) (db : 
 
   -- ---- its tree
 
-  module _ (mid : PageMap) (becomes : BecomesRows old mid size 1 schema_left held.schema_used held.free) where
+  module _ (laws : Laws) (mid : PageMap) (becomes : BecomesRows old mid size 1 schema_left held.schema_used held.free) where
     abbrev then_trees : HoldsTrees mid size held.rows_at tables schema_left
     then_trees = with_schema old size held.rows_at tables held.schema trees laws.give_way mid schema_left becomes
 
@@ -274,22 +296,23 @@ module _ (laws : Laws) (old : PageMap) (size : ℕ) (tables : List Table) (db : 
     stand = subst (λ (u : Table). AreAmong mid size schema (all_trees o.split.before) u rows (all_trees o.split.after)) whole_is (among mid size held.rows_at tables schema_left then_trees t o)
 
     -- what the call that gives its tree back comes to
-    pub drops : (new : PageMap) → FreesIndex mid new size i.root (Ok tt) → (listed : List Table) → listed ≡ with_replaced (without_index n t) tables → IsMade (dropping kind.Index n) db new size listed
-    drops new frees listed same =
+    pub drops : i.is_automatic ≡ false → (new : PageMap) → FreesIndex mid new size i.root (Ok tt) → (listed : List Table) → listed ≡ with_replaced (without_index n t) tables
+        → IsMade (dropping kind.Index n) db new size listed
+    drops written new frees listed same =
         let now = frees t at.before at.after i refl schema (all_trees o.split.before) (all_trees o.split.after) rows (page_size mid size held.rows_at tables schema_left then_trees) refl stand o.split.is.fit in
         let longer : length old ≤ length new = (let a = becomes.moves.longer in let b = now.longer in omega (arith, a, b)) in
         let others : split.before ++ then_table ∷ split.after ≡ with_replaced (without_index n t) tables =
         sym (ap (λ (u : Table). with_replaced u tables) then_is ∙ split.replaced then_table refl) in
         record {
           made = without_object n db;
-          reaches = reached;
+          reaches = reached written;
           stored = subst (λ (ts : List Table). Stores new size ts (without_object n db)) (sym same)
               (stores_of new size (rows_with held.rows_at t.root rows) (with_replaced (without_index n t) tables) schema_left (without_object n db)
               (subst (λ (ts : List Table). HoldsTrees new size (rows_with held.rows_at t.root rows) ts schema_left) others
               (changed mid size held.rows_at tables schema_left then_trees t o new then_table rows refl o.split.is.fit now))
               (subst (λ (rs : ℕ → List TableRow). IsOfTables rs (with_replaced (without_index n t) tables) (without_object n db)) (sym (rows_same held.rows_at t.root))
               (laws.others held.rows_at tables db n t held.of_tables on))
-              (subst (λ (ts : List Table). AreRowsOf (length new) ts schema_left) others (told (length new) longer)));
+              (subst (λ (ts : List Table). AreRowsOf (length new) ts schema_left) others (told (length new) longer)) (keys_left written));
         }
 
     pub not_given : (new : PageMap) (f : Fault) → FreesIndex mid new size i.root (Err f) → IsChangeRefusal (dropping kind.Index n) db f

@@ -45,7 +45,8 @@ use Rattle.executor.specs.Reading.{AnswersRead}
 use Rattle.db_pages.specs.Stored.{Stores, all_trees, schema_tree}
 use Rattle.executor.specs.Works.{Reaches, RefusesWith, change_made, given_on, of_answer}
 use Rattle.executor.proofs.Owners.{HasTable}
-use Rattle.executor.proofs.HeldTrees.{HoldsTrees, among, named_as, page_size, rows_elsewhere, rows_here, rows_with, stores_rows, held_table, trees_held}
+use Rattle.executor.specs.Holding.{HoldsTrees}
+use Rattle.executor.proofs.HeldTrees.{among, named_as, page_size, rows_elsewhere, rows_here, rows_with, stores_rows, held_table, trees_held}
 use Rattle.executor.proofs.Roots.{own_pages}
 use Rattle.executor.proofs.FoundTables.{indexes_listed, table_found}
 use Rattle.executor.proofs.Replacing.{found_is, same_folded}

@@ -8,8 +8,12 @@ pub mod GivenQueries
 pub mod HeldTrees
 pub mod IndexCreations
 pub mod IndexDroppings
+pub mod IndexListings
 pub mod Insertions
+pub mod KeyCreations
+pub mod KeyIndexes
 pub mod LoadedSources
+pub mod NewNames
 pub mod Owners
 pub mod Replacing
 pub mod Roots

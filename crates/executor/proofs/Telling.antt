@@ -1,5 +1,5 @@
 -- Rows that tell tables and indexes go on to tell them: with more pages, with one row more, and with one less.
-use Rattle.std.proofs.Common.{◌≡◌, ◌≤◌, refl, sym, ap, subst, ◌∙◌, ℕ, ℤ, true, false, cond, map, List, [], ◌∷◌, ◌++◌, append_assoc, Some, None, arith}
+use Rattle.std.proofs.Common.{◌≡◌, ◌≤◌, inl, inr, refl, sym, ap, subst, ◌∙◌, ℕ, ℤ, true, false, codes, cond, map, List, [], ◌∷◌, ◌++◌, append_assoc, Option, Some, None, arith}
 use Rattle.std.specs.List.{AllByRecursion}
 use Rattle.std.specs.Ordering.{eq_by_cmp, int_cmp, int_eq}
 use Rattle.std.specs.Prelude.{⊤}
@@ -40,7 +40,7 @@ told_as pages items others rows same tell = subst (λ (xs : List Told). AreToldB
 
 -- ---- more pages
 
-row_with_more : (n m : ℕ) → n ≤ m → (kind own on : List ℕ) (root : ℕ) (sql : List ℕ) (row : Entry) → HasRowOf n kind own on root sql row → HasRowOf m kind own on root sql row
+row_with_more : (n m : ℕ) → n ≤ m → (kind own on : List ℕ) (root : ℕ) (sql : Option (List ℕ)) (row : Entry) → HasRowOf n kind own on root sql row → HasRowOf m kind own on root sql row
 row_with_more n m le kind own on root sql row is = record {
   above = is.above;
   within = omega (arith, is.within, le);
@@ -58,16 +58,21 @@ tells_with_more n m le (TableTold t) row is = record {
   creates = is.creates;
   makes = is.makes;
   rowid_is = is.rowid_is;
-  row_is = row_with_more n m le _ _ _ _ is.sql row is.row_is;
+  row_is = row_with_more n m le _ _ _ _ (Some is.sql) row is.row_is;
 }
-tells_with_more n m le (IndexTold t i) row is = record {
+tells_with_more n m le (IndexTold t i) row (inl is) = inl (record {
   sql = is.sql;
   definition = is.definition;
   creates = is.creates;
   makes = is.makes;
   rowid_is = is.rowid_is;
-  row_is = row_with_more n m le _ _ _ _ is.sql row is.row_is;
-}
+  row_is = row_with_more n m le _ _ _ _ (Some is.sql) row is.row_is;
+})
+tells_with_more n m le (IndexTold t i) row (inr is) = inr (record {
+  automatic = is.automatic;
+  rowid_is = is.rowid_is;
+  row_is = row_with_more n m le (codes "index") i.name t.name i.root None row is.row_is;
+})
 
 each_tells : (P Q : Told → Entry → Type 0) → ((item : Told) (row : Entry) → P item row → Q item row) → (items : List Told) (rows : List Entry) → Pairwise P items rows → Pairwise Q items rows
 each_tells P Q so [] [] each = tt
@@ -133,7 +138,8 @@ rowid_told (IndexTold t i) = i.rowid
 
 pub at_rowid : (pages : ℕ) (item : Told) (row : Entry) → Tells pages item row → row.rowid ≡ rowid_told item
 at_rowid pages (TableTold t) row tells = tells.rowid_is
-at_rowid pages (IndexTold t i) row tells = tells.rowid_is
+at_rowid pages (IndexTold t i) row (inl tells) = tells.rowid_is
+at_rowid pages (IndexTold t i) row (inr tells) = tells.rowid_is
 
 -- the row of an item is there, and without it the others are told
 pub record IsLess (pages : ℕ) (items : List Told) (rowid : ℤ) (rows : List Entry) : Type 0 where
@@ -231,7 +237,7 @@ told_once pages (item ∷ items) [] each = absurd each
 told_once pages (TableTold t ∷ items) (row ∷ rows) each = (once_alone each.0.definition t each.0.makes.once each.0.makes.columns, told_once pages items rows each.1)
 told_once pages (IndexTold t i ∷ items) (row ∷ rows) each = (tt, told_once pages items rows each.1)
 
-all_after : {A : Type 0} (P : A → Type 0) (xs ys : List A) → AllByRecursion P (xs ++ ys) → AllByRecursion P ys
+pub all_after : {A : Type 0} (P : A → Type 0) (xs ys : List A) → AllByRecursion P (xs ++ ys) → AllByRecursion P ys
 all_after P [] ys all = all
 all_after P (x ∷ xs) ys all = all_after P xs ys all.1
 
@@ -279,24 +285,33 @@ same_table pages t others row is = record {
   sql = is.sql;
   definition = is.definition;
   creates = is.creates;
-  makes = record { free = is.makes.free; once = is.makes.once; name_is = is.makes.name_is; columns = is.makes.columns; checks = is.makes.checks };
+  makes = record { free = is.makes.free; once = is.makes.once; name_is = is.makes.name_is; columns = is.makes.columns; checks = is.makes.checks; keys = is.makes.keys };
   rowid_is = is.rowid_is;
   row_is = is.row_is;
 }
 
 pub same_indexes : (pages : ℕ) (t : Table) (others is : List Index) → Pairwise (IsToldAlso pages) (map (λ i. IndexTold t i) is) (map (λ i. IndexTold (record t { indexes = others }) i) is)
 same_indexes pages t others [] = tt
-same_indexes pages t others (i ∷ is) = (
-  λ row tells. record {
-    sql = tells.sql;
-    definition = tells.definition;
-    creates = tells.creates;
-    makes = record { free = tells.makes.free; once = tells.makes.once; name_is = tells.makes.name_is; on = tells.makes.on; unique = tells.makes.unique; columns = tells.makes.columns };
-    rowid_is = tells.rowid_is;
-    row_is = tells.row_is;
-  },
-  same_indexes pages t others is,
-)
+same_indexes pages t others (i ∷ is) = (λ row. same_row row, same_indexes pages t others is)
+  where
+    same_row : (row : Entry) → Tells pages (IndexTold t i) row → Tells pages (IndexTold (record t { indexes = others }) i) row
+    same_row row (inl tells) = inl (record {
+      sql = tells.sql;
+      definition = tells.definition;
+      creates = tells.creates;
+      makes = record {
+        free = tells.makes.free;
+        once = tells.makes.once;
+        name_is = tells.makes.name_is;
+        on = tells.makes.on;
+        unique = tells.makes.unique;
+        written = tells.makes.written;
+        columns = tells.makes.columns;
+      };
+      rowid_is = tells.rowid_is;
+      row_is = tells.row_is;
+    })
+    same_row row (inr tells) = inr (record { automatic = tells.automatic; rowid_is = tells.rowid_is; row_is = tells.row_is })
 
 -- ---- all that tables tell
 

@@ -45,7 +45,8 @@ use Rattle.executor.specs.Works.{Reaches, RefusesWith, change_made, of_answer}
 use Rattle.executor.proofs.Deletions.{as_refused}
 use Rattle.executor.proofs.Insertions.{listed_table, named_folded}
 use Rattle.executor.proofs.Owners.{HasTable}
-use Rattle.executor.proofs.HeldTrees.{HoldsTrees, among, page_size, rows_with, stores_rows, held_table, trees_held}
+use Rattle.executor.specs.Holding.{HoldsTrees}
+use Rattle.executor.proofs.HeldTrees.{among, page_size, rows_with, stores_rows, held_table, trees_held}
 use Rattle.executor.proofs.Roots.{own_pages}
 use Rattle.executor.proofs.FoundTables.{indexes_listed}
 use Rattle.executor.proofs.Replacing.{found_is, same_folded}

@@ -1,5 +1,6 @@
 -- What a statement's change makes of the pages that hold a database (SQL As Understood By SQLite, "CREATE TABLE", "CREATE INDEX", "INSERT").
-use Rattle.std.specs.Prelude.{◌≡◌, ◌⊎◌, codes, ℕ, true, List, length, Some, Result, MatchResult}
+use Rattle.std.specs.Prelude.{◌≡◌, ◌⊎◌, codes, ℕ, true, List, length, Some, None, Result, MatchResult}
+use Rattle.std.specs.List.{list_any}
 use Rattle.sqlval.specs.Names.{folded}
 use Rattle.sqlval.specs.Refusals.{refusal_of}
 use Rattle.sqlval.specs.declared.fault.Fault.{Fault}
@@ -18,6 +19,8 @@ use Rattle.catalog.specs.Database.{AnIndex, Database, Name, object}
 use Rattle.catalog.specs.Listed.{as_index}
 use Rattle.catalog.specs.declared.tables.Index.{Index}
 use Rattle.catalog.specs.declared.tables.Table.{Table}
+use Rattle.query_names.specs.Schema.{automatic_name}
+use Rattle.query_names.specs.Tables.{keys_of}
 use Rattle.db_write.specs.Changing.{is_wide}
 use Rattle.db_pages.specs.Schema.{schema_row}
 use Rattle.db_pages.specs.Stored.{Stores}
@@ -50,6 +53,7 @@ PutsInWide (change.Delete d) db = ⊥
 
 abbrev MakesWide : NewObject → Type 0
 MakesWide (new.Index d) = is_wide (length d.columns) ≡ true
+MakesWide (new.Table d) = list_any (λ key. is_wide (length key.1)) (keys_of d) ≡ true
 MakesWide _ = ⊥
 
 -- the statement puts rows into a table with such an index, or makes one
@@ -59,12 +63,13 @@ MeetsWideIndex (statement.Create c) db = MakesWide c.object
 MeetsWideIndex _ db = ⊥
 
 abbrev MakesLongText : List ℕ → NewObject → Type 0
-MakesLongText sql (new.Table d) = (root : ℕ) × (AreStorable (schema_row (codes "table") d.name d.name root sql) → ⊥)
+MakesLongText sql (new.Table d) = (root : ℕ) × ((AreStorable (schema_row (codes "table") d.name d.name root (Some sql)) → ⊥)
+    ⊎ ((number : ℕ) × (AreStorable (schema_row (codes "index") (automatic_name d.name number) d.name root None) → ⊥)))
 MakesLongText sql (new.Index d) =
-    (table : Name) × (root : ℕ) × (folded table ≡ folded d.table) × (AreStorable (schema_row (codes "index") d.name table root sql) → ⊥)
+    (table : Name) × (root : ℕ) × (folded table ≡ folded d.table) × (AreStorable (schema_row (codes "index") d.name table root (Some sql)) → ⊥)
 MakesLongText sql _ = ⊥
 
--- no record can hold the row of the schema table for what the statement creates
+-- no record can hold a row of the schema table for what the statement creates
 abbrev pub HasLongText : Statement → Type 0
 HasLongText (statement.Create c) = MakesLongText c.sql c.object
 HasLongText _ = ⊥

@@ -1,5 +1,6 @@
 pub mod Changing
 pub mod Forms
+pub mod Holding
 pub mod Listing
 pub mod Reading
 pub mod Works

@@ -1,26 +1,28 @@
 //! CREATE TABLE and CREATE INDEX.
 
-ghost use Rattle.std.specs.Prelude.{◌≡◌, ◌⊎◌, codes, true, false, IfOk, IfErr, IsTrue};
-ghost use Rattle.sqlval.specs.Faults.{IsNotDiskFault};
+ghost use Rattle.std.specs.Prelude.{◌≡◌, ◌⊎◌, codes, true, false, length, IfOk, IfErr, IsTrue, Some, option_map};
+ghost use Rattle.sqlval.specs.Faults.{IsNotDiskFault, IsOrMemory};
 ghost use Rattle.sqlval.specs.Refusals.{refusal_of};
 ghost use Rattle.pages.specs.Calls.{Causes};
 ghost use Rattle.sql_syntax.specs.declared.create.NewObject.TheVariants as object;
 ghost use Rattle.sql_syntax.specs.declared.statement.Statement.TheVariants as statement;
-ghost use Rattle.catalog.specs.Listed.{is_name_of, tables_of};
-ghost use Rattle.query_names.specs.Creating.{IsCreateRefusal, has_no_keys};
+ghost use Rattle.catalog.specs.Listed.{is_name_of, table_named, tables_of};
+ghost use Rattle.catalog.specs.declared.tables.Table.{Table as Listed};
+ghost use Rattle.query_names.specs.Creating.{IsCreateRefusal, has_rowid_key};
 ghost use Rattle.db_pages.specs.Schema.{IsCreateOf, IsTableOf, schema_row};
 ghost use Rattle.executor.specs.Changing.{MakesChange};
+ghost use Rattle.executor.specs.Holding.{ListsIndex, ListsKeys, key_index};
 ghost use Rattle.executor.specs.Listing.{AddsRow, IsNewTable};
 
 use catalog::{
-    Catalog, Index, Table, indexes_come_and_go, is_reserved, named_databases_are_one,
-    new_tables_are_listed, other_rows_are_listed, with_index,
+    Catalog, Index, IndexColumn, Table, indexes_come_and_go, is_reserved, key_copy,
+    named_databases_are_one, new_tables_are_listed, other_rows_are_listed, with_index,
 };
 use db_layout::{table_trees_stand, trees_give_way};
 use db_write::add_index;
 use pages::WritePages;
 use query_bind::{bind_index, indexes_are_created_as_defined};
-use query_names::{bind_checks, bind_columns};
+use query_names::{automatic_name, bind_checks, bind_columns, bind_keys, folded};
 use record::encode_row;
 use sql_syntax::{IndexDefinition, TableDefinition};
 use sqlval::{Damage, Fault, Many, Misuse, Name, R, Text, Value};
@@ -40,10 +42,10 @@ fn schema_values(
     name: &Name,
     table: &Name,
     root: u32,
-    sql: &Text,
+    sql: Option<&Text>,
 ) -> R<Vec<Value>>
     ensures values { IfOk result (λ values. values.items
-        ≡ schema_row kind.now name.now table.now root sql.now) }
+        ≡ schema_row kind.now name.now table.now root (option_map (λ text. text.now) sql.entry)) }
     ensures memory { IfErr result (λ fault. fault ≡ Fault.Memory) }
 {
     let mut values = Vec::new(alloc);
@@ -51,7 +53,10 @@ fn schema_values(
     values.push(Value::Text(Text::from_str(alloc, name.as_str())?))?;
     values.push(Value::Text(Text::from_str(alloc, table.as_str())?))?;
     values.push(Value::Int(i64::from(root)))?;
-    values.push(Value::Text(sql.copy(alloc)?))?;
+    values.push(match sql {
+        Some(sql) => Value::Text(sql.copy(alloc)?),
+        None => Value::Null,
+    })?;
     Ok(values)
 }
 
@@ -72,10 +77,12 @@ fn table_of(alloc: Global, catalog: &Catalog, definition: &TableDefinition) -> R
     }
     let columns = bind_columns(alloc, definition)?;
     let checks = bind_checks(alloc, definition, columns.as_slice())?;
+    let keys = bind_keys(alloc, definition, columns.as_slice())?;
     Ok(Table {
         name: name.copy(alloc)?,
         columns,
         checks,
+        keys,
         indexes: Many::new(alloc),
         root: NO_PAGE,
         rowid: 0,
@@ -99,6 +106,96 @@ fn add_row<P: WritePages>(alloc: Global, pages: &mut P, rowid: i64, values: &[Va
     Ok(())
 }
 
+/// Lists an index with its table: its row in the schema table, of this name and text, and a tree with the entries of the table's rows. Answers the
+/// catalog with it. (What `add_index` refuses; `TooLong` if no record can hold its row. Then some pages may have changed.)
+fn list_index<P: WritePages>(
+    alloc: Global,
+    pages: &mut P,
+    catalog: &Catalog,
+    table: &Table,
+    mut index: Index,
+    name: &Name,
+    sql: Option<&Text>,
+) -> R<Catalog>
+    ensures listed { IsTrue (P.Pages.tells (P.Pages.below pages.old))
+        → ListsIndex (P.Pages.map pages.old) (P.Pages.map pages.new)
+        (P.Pages.limits (P.Pages.below pages.old)).page (tables_of catalog.now) table.now index name.now
+        (option_map (λ text. text.now) sql.entry) result }
+    ensures kept { P.Pages.below pages.new ≡ P.Pages.below pages.old }
+    ensures causes { Causes result (P.Pages.failures pages.old) (P.Pages.failures pages.new)
+        (P.Pages.count pages.new ≡ (P.Pages.limits (P.Pages.below pages.new)).most) }
+{
+    indexes_come_and_go();
+    trees_give_way();
+    table_trees_stand();
+    let rowid = catalog.unused_rowid(alloc)?;
+    index.rowid = rowid;
+    index.root = add_index(
+        alloc,
+        pages,
+        table,
+        index.columns.as_slice(),
+        index.is_unique,
+    )?;
+    let values = schema_values(alloc, "index", name, &table.name, index.root, sql)?;
+    add_row(alloc, pages, rowid, &values)?;
+    catalog.replacing(alloc, with_index(alloc, table, index)?)
+}
+
+/// The index of a table's key, under its folded name, without a tree and a row in the schema table as yet. (`Memory` alone.)
+fn automatic_index(alloc: Global, columns: &[IndexColumn], name: &Name) -> R<Index>
+    ensures { IsOrMemory (λ index. index ≡ key_index columns.now name.now) result }
+{
+    Ok(Index {
+        name: folded(alloc, name)?,
+        columns: key_copy(alloc, columns)?,
+        is_unique: true,
+        is_automatic: true,
+        root: NO_PAGE,
+        rowid: 0,
+    })
+}
+
+/// How many keys the table of a name has.
+fn key_count(catalog: &Catalog, name: &str) -> usize
+    ensures { (table : Listed) → table_named name.now (tables_of catalog.now) ≡ Some table → result ≡ length table.keys }
+{
+    match catalog.table(name) {
+        Some(table) => table.keys.len(),
+        None => 0,
+    }
+}
+
+/// Lists an index for each key of the table of this name, one after another. Answers the catalog with them. (What `list_index` refuses.)
+fn list_keys<P: WritePages>(
+    alloc: Global,
+    pages: &mut P,
+    catalog: Catalog,
+    name: &Name,
+) -> R<Catalog>
+    ensures listed { IsTrue (P.Pages.tells (P.Pages.below pages.old))
+        → ListsKeys (P.Pages.map pages.old) (P.Pages.map pages.new)
+        (P.Pages.limits (P.Pages.below pages.old)).page (tables_of catalog) name.now result }
+    ensures kept { P.Pages.below pages.new ≡ P.Pages.below pages.old }
+    ensures causes { Causes result (P.Pages.failures pages.old) (P.Pages.failures pages.new)
+        (P.Pages.count pages.new ≡ (P.Pages.limits (P.Pages.below pages.new)).most) }
+{
+    let count = key_count(&catalog, name.as_str());
+    let mut listed = catalog;
+    'keys: for place in 0..count {
+        let Some(table) = listed.table(name.as_str()) else {
+            break;
+        };
+        let Some(columns) = table.keys.as_slice().get(place) else {
+            break;
+        };
+        let own_name = automatic_name(alloc, &table.name, place + 1)?;
+        let index = automatic_index(alloc, columns.as_slice(), &own_name)?;
+        listed = list_index(alloc, pages, &listed, table, index, &own_name, None)?;
+    }
+    Ok(listed)
+}
+
 /// Makes a table: its row in the schema table, and a tree without rows. Answers the catalog with it. (`Misuse(ReservedName)`, `Exists`, and
 /// what `bind_columns` and `bind_checks` refuse; `TooLong` if no record can hold its row. Then some pages may have changed.)
 pub fn create_table<P: WritePages>(
@@ -109,7 +206,7 @@ pub fn create_table<P: WritePages>(
     definition: &TableDefinition,
 ) -> R<Catalog>
     ensures made { IsTrue (P.Pages.tells (P.Pages.below pages.old))
-        → has_no_keys definition.now ≡ true
+        → has_rowid_key definition.now ≡ false
         → IsCreateOf sql.now (object.Table definition.now)
         → MakesChange tables_of (statement.Create
         (record { sql = sql.now; object = object.Table definition.now })) (P.Pages.map pages.old)
@@ -129,9 +226,10 @@ pub fn create_table<P: WritePages>(
     table.rowid = rowid;
     table.root = new_tree(alloc, pages)?;
     let name = &definition.name;
-    let values = schema_values(alloc, "table", name, name, table.root, sql)?;
+    let values = schema_values(alloc, "table", name, name, table.root, Some(sql))?;
     add_row(alloc, pages, rowid, &values)?;
-    catalog.with(alloc, 0, table)
+    let listed = catalog.with(alloc, 0, table)?;
+    list_keys(alloc, pages, listed, name)
 }
 
 /// Makes an index: its row in the schema table, and a tree with the entries of its table's rows. Answers the catalog with it. (What
@@ -155,27 +253,15 @@ pub fn create_index<P: WritePages>(
 {
     indexes_come_and_go();
     indexes_are_created_as_defined();
-    trees_give_way();
-    table_trees_stand();
     let bound = bind_index(alloc, catalog, definition)?;
-    let rowid = catalog.unused_rowid(alloc)?;
-    let is_unique = definition.is_unique;
-    let root = add_index(
-        alloc,
-        pages,
-        bound.table,
-        bound.columns.as_slice(),
-        is_unique,
-    )?;
-    let (name, table) = (&definition.name, bound.table);
-    let values = schema_values(alloc, "index", name, &table.name, root, sql)?;
-    add_row(alloc, pages, rowid, &values)?;
     let index = Index {
-        name: name.copy(alloc)?,
+        name: definition.name.copy(alloc)?,
         columns: bound.columns,
-        is_unique,
-        root,
-        rowid,
+        is_unique: definition.is_unique,
+        is_automatic: false,
+        root: NO_PAGE,
+        rowid: 0,
     };
-    catalog.replacing(alloc, with_index(alloc, table, index)?)
+    let name = &definition.name;
+    list_index(alloc, pages, catalog, bound.table, index, name, Some(sql))
 }

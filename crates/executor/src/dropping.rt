@@ -1,6 +1,6 @@
 //! DROP.
 
-ghost use Rattle.std.specs.Prelude.{◌≡◌, ◌⊎◌, map, option_map, None, Some, IfErr, IfOk, IsTrue};
+ghost use Rattle.std.specs.Prelude.{◌≡◌, ◌⊎◌, false, map, option_map, None, Some, IfErr, IfOk, IsTrue};
 ghost use Rattle.std.specs.List.{find};
 ghost use Rattle.sqlval.specs.Faults.{IsNotDiskFault};
 ghost use Rattle.sqlval.specs.Names.{is_same_name};
@@ -23,7 +23,7 @@ use db_layout::{table_trees_stand, trees_give_way};
 use db_write::{drop_trees, free_index};
 use pages::WritePages;
 use sql_syntax::ObjectKind;
-use sqlval::{Damage, Fault, Name, Object, R};
+use sqlval::{Damage, Fault, Misuse, Name, Object, R};
 use std::alloc::Global;
 use tree_table::remove;
 
@@ -134,8 +134,8 @@ fn index_named<'a>(table: &'a Table, name: &str) -> Option<&'a Index>
         .find(|index| index.name.is_same(name))
 }
 
-/// Drops one of a table's indexes: its row in the schema table, and its tree. Answers the catalog without it. (What `take_row` and `free_index`
-/// refuse. Then some pages may have changed.)
+/// Drops one of a table's indexes, which isn't an automatic one: its row in the schema table, and its tree. Answers the catalog without it.
+/// (What `take_row` and `free_index` refuse. Then some pages may have changed.)
 fn drop_listed_index<P: WritePages>(
     alloc: Global,
     pages: &mut P,
@@ -147,6 +147,7 @@ fn drop_listed_index<P: WritePages>(
     ensures made { IsTrue (P.Pages.tells (P.Pages.below pages.old))
         → table_with_index name.now (tables_of catalog.now) ≡ Some table.now
         → find (λ other. is_same_name other.name name.now) table.now.indexes ≡ Some index.now
+        → index.now.is_automatic ≡ false
         → MakesChange tables_of (statement.Drop kinds.Index name.now) (P.Pages.map pages.old)
         (P.Pages.map pages.new)
         (P.Pages.limits (P.Pages.below pages.old)).page (tables_of catalog.now) result }
@@ -182,7 +183,7 @@ fn listed_index<'a>(alloc: Global, catalog: &'a Catalog, name: &Name) -> R<(&'a 
     }
 }
 
-/// Drops an index, and answers the catalog without it. (`NoSuch`; what `drop_listed_index` refuses.)
+/// Drops an index, and answers the catalog without it. (`NoSuch`; `Misuse(Autoindex)`; what `drop_listed_index` refuses.)
 fn drop_index<P: WritePages>(
     alloc: Global,
     pages: &mut P,
@@ -199,11 +200,14 @@ fn drop_index<P: WritePages>(
 {
     listed_tables_are_found();
     let (table, index) = listed_index(alloc, catalog, name)?;
+    if index.is_automatic {
+        return Err(Fault::Misuse(Misuse::Autoindex));
+    }
     drop_listed_index(alloc, pages, catalog, table, index, name)
 }
 
-/// Drops an object, and answers the catalog without it. (`NoSuch`, also for each view and trigger, since there are none; what
-/// removing rows of the schema table and freeing trees refuse; then some pages may have changed.)
+/// Drops an object, and answers the catalog without it. (`NoSuch`, also for each view and trigger, since there are none;
+/// `Misuse(Autoindex)`; what removing rows of the schema table and freeing trees refuse; then some pages may have changed.)
 pub fn drop_object<P: WritePages>(
     alloc: Global,
     pages: &mut P,

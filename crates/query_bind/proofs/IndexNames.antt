@@ -176,7 +176,7 @@ module _ (finds : FindsListed) (names : NamesListed) (rows_at : ℕ → List (�
 
       by_object : (found : Option Object) → IsNoTable found → Has (index_made found d) NoSuch
       by_object found (inl is) = subst (λ (o : Option Object). Has (index_made o d) NoSuch) (sym is) (no_such (known_all (map resolve_collation (filter_map (λ c. c.collation) d.columns))) (index_over []))
-      by_object found (inr (i, is, plain)) = subst (λ (o : Option Object). Has (index_made o d) NoSuch) (sym is) (no_such (known_all (map resolve_collation (filter_map (λ c. c.collation) d.columns))) (index_over []))
+      by_object found (inr (i, is)) = subst (λ (o : Option Object). Has (index_made o d) NoSuch) (sym is) (no_such (known_all (map resolve_collation (filter_map (λ c. c.collation) d.columns))) (index_over []))
 
   has_so : (r s : Refusal) → r ≡ s → Has (create db (new.Index d)) s → Contains (faults (create db (new.Index d))) r
   has_so r s e h = subst (Contains (faults (create db (new.Index d)))) (sym e) h.among

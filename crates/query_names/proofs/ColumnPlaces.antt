@@ -14,7 +14,8 @@ use Rattle.catalog.specs.declared.tables.Column.{Column}
 use Rattle.catalog.specs.declared.tables.Table.{Table}
 use Rattle.query_names.specs.Bound.{is_twice_named, source_seen}
 use Rattle.query_names.specs.Checked.{good, faults, the_one}
-use Rattle.query_names.specs.Scopes.{table_scope, place_of}
+use Rattle.query_names.specs.Scopes.{table_scope, table_source, place_of}
+use Rattle.query_names.specs.Tables.{without_rows}
 use Rattle.query_names.specs.declared.scope.ScopeColumn.{ScopeColumn}
 
 -- ---- names
@@ -103,7 +104,7 @@ placed_is i n (c ∷ cs) once =
 abbrev pub column_place : List Column → List ℕ → ℕ
 column_place cs name = unwrap_or (place_named name cs) 0
 
-module _ (as_name : List ℕ) (t : Table) (once : is_twice_named t.columns ≡ false) where
+module _ (as_name : List ℕ) (cs : List Column) (once : is_twice_named cs ≡ false) where
   by_place : (o : Option ℕ) (ps : List ℕ) → IsPlaced o ps → is_none o ≡ false → the_one false 0 ps ≡ good (unwrap_or o 0)
   by_place None ps h k = absurd (false≢true (sym k))
   by_place (Some p) ps h k = ap (the_one false 0) h
@@ -112,8 +113,15 @@ module _ (as_name : List ℕ) (t : Table) (once : is_twice_named t.columns ≡ f
   by_none None ps h k = ap (λ ps. faults (the_one false 0 ps)) h
   by_none (Some p) ps h k = absurd (false≢true k)
 
+  pub one_place_among : (name : List ℕ) → is_none (place_named name cs) ≡ false → place_of (table_source as_name (without_rows (map as_column cs) None [])) name ≡ good (column_place cs name)
+  one_place_among name h = by_place (place_named name cs) (placed_from 0 name (seen cs)) (placed_is 0 name cs once) h
+
+  pub no_place_among : (name : List ℕ) → is_none (place_named name cs) ≡ true → faults (place_of (table_source as_name (without_rows (map as_column cs) None [])) name) ≡ NoSuch ∷ []
+  no_place_among name h = by_none (place_named name cs) (placed_from 0 name (seen cs)) (placed_is 0 name cs once) h
+
+module _ (as_name : List ℕ) (t : Table) (once : is_twice_named t.columns ≡ false) where
   pub one_place : (name : List ℕ) → is_none (place_named name t.columns) ≡ false → place_of (source_seen as_name t) name ≡ good (column_place t.columns name)
-  one_place name h = by_place (place_named name t.columns) (placed_from 0 name (seen t.columns)) (placed_is 0 name t.columns once) h
+  one_place = one_place_among as_name t.columns once
 
   pub no_place : (name : List ℕ) → is_none (place_named name t.columns) ≡ true → faults (place_of (source_seen as_name t) name) ≡ NoSuch ∷ []
-  no_place name h = by_none (place_named name t.columns) (placed_from 0 name (seen t.columns)) (placed_is 0 name t.columns once) h
+  no_place = no_place_among as_name t.columns once

@@ -1,37 +1,86 @@
--- What CREATE TABLE makes of a definition without keys, and what refuses it.
-use Rattle.std.proofs.Common.{◌≡◌, refl, sym, ap, subst, ◌∙◌, ◌⊎◌, inl, inr, ℕ, suc, Bool, true, false, ◌==◌, cond, List, [], ◌∷◌, ◌++◌, length, map, Option, Some, None, arith}
+-- What CREATE TABLE makes of a definition, and what refuses it.
+use Rattle.std.proofs.Common.{◌≡◌, refl, sym, ap, subst, ◌∙◌, ◌⊎◌, inl, inr, ℕ, zero, suc, Bool, true, false, ◌&&◌, ◌||◌, cond, filter, List, [], ◌∷◌, ◌++◌, map, Option, Some, None, arith}
 use Rattle.std.proofs.lemmas.Bool.{false≢true}
-use Rattle.std.proofs.lemmas.Bool.Decides.{nat_tests}
-use Rattle.std.proofs.lemmas.List.Elements.{Contains-append_left, Contains-append_right}
+use Rattle.std.proofs.lemmas.List.Elements.{Contains-append_cases, Contains-append_left, Contains-append_right}
 use Rattle.std.specs.Prelude.{if◌then◌else◌, is_some}
-use Rattle.std.specs.List.{Contains, find}
-use Rattle.std.specs.FinMap.Entries.{put}
+use Rattle.std.specs.List.{AllByRecursion, Contains, find, list_any}
+use Rattle.std.specs.Cmp.Lexicographic.{pointwise}
 use Rattle.sqlval.specs.Lists.{any_twice}
 use Rattle.sqlval.specs.Names.{is_same_name}
 use Rattle.sqlval.specs.Refusals.{Refusal, Exists, Misuse}
 use Rattle.sql_syntax.specs.declared.create.ColumnDefinition.{ColumnDefinition}
 use Rattle.sql_syntax.specs.declared.create.TableDefinition.{TableDefinition}
+use Rattle.sqlval.specs.declared.collation.Collation.{Collation}
+use Rattle.catalog.specs.Database as database
 use Rattle.catalog.specs.Database.{Database, Name, Object, ATable, TableColumn, name_order, object, with_object}
 use Rattle.catalog.proofs.Found.{names_listed}
 use Rattle.catalog.specs.Laws.{NamesListed}
-use Rattle.catalog.specs.Listed.{as_column, is_reserved, is_table, with_rows}
+use Rattle.catalog.specs.Listed.{as_column, is_reserved, is_table, key_columns, with_rows}
 use Rattle.catalog.specs.declared.tables.Column.{Column}
 use Rattle.catalog.specs.declared.tables.Table.{Table}
-use Rattle.query_names.specs.Bound.{is_twice_named}
-use Rattle.query_names.specs.Creating.{HasChecksOf, HasColumnsOf, IsCheckRefusal, KeepsNamesOnce, MakesListedTable, RefusesTableAsDefined, checks_known, defined, described, has_doubled, has_no_keys}
+use Rattle.query_names.specs.Bound.{is_twice_named, source_seen}
+use Rattle.query_names.specs.Creating.{HasChecksOf, HasColumnsOf, HasKeysOf, IsRuleRefusal, KeepsNamesOnce, MakesListedTable, RefusesTableAsDefined, are_doubled, checks_known, defined, described, has_doubled, has_rowid_key, is_rowid_key, places_known, table_keys_known}
 use Rattle.query_names.specs.Expressions.{resolve}
 use Rattle.query_names.specs.Checked.{Checked, Meant, good, meant, faults, also, both, known_all, known_map, ◌and_then◌, unless}
-use Rattle.query_names.specs.Schema.{automatic, create_table}
-use Rattle.query_names.specs.Tables.{checks_of, column_of, keys_of, new_source, table_made}
+use Rattle.query_names.specs.Schema.{automatic, create_table, with_objects}
+use Rattle.query_names.specs.Scopes.{resolve_places, table_source}
+use Rattle.query_names.specs.Tables.{WrittenKey, checks_of, collation_at, column_of, first_some, has_no_rowid_key, keys_of, new_source, resolve_key, rowid_key, table_made, without_rows}
+use Rattle.query_names.specs.declared.scope.ScopeSource.{ScopeSource}
+use Rattle.query_names.proofs.KeyNames.{firsts_once}
+use Rattle.query_names.proofs.TableKeys.{all_kept, map_good, no_rowid, none_first, paired, pairs_hold, unless_good, with_item}
 
--- ---- no keys
+-- ---- doubled keys
 
-no_items : {A : Type 0} (xs : List A) → (length xs == 0) ≡ true → xs ≡ []
-no_items [] h = refl
-no_items (x ∷ xs) h = absurd (false≢true (sym (none (length xs)) ∙ h))
+not_either : (a b : Bool) → (a || b) ≡ false → (a ≡ false) × (b ≡ false)
+not_either false b h = (refl, h)
+not_either true b h = absurd (false≢true (sym h))
+
+one_of_two : (a b : Bool) → (a || b) ≡ true → (a ≡ true) ⊎ (b ≡ true)
+one_of_two true b h = inl refl
+one_of_two false b h = inr h
+
+either_any : {A : Type 0} (p q : A → Bool) (xs : List A) → list_any (λ x. p x || q x) xs ≡ true → (list_any p xs ≡ true) ⊎ (list_any q xs ≡ true)
+either_any p q [] h = absurd (false≢true h)
+either_any p q (x ∷ xs) h = by_tests (p x) (q x) (list_any p xs) (list_any q xs) (either_any p q xs) h
   where
-    none : (n : ℕ) → (suc n == 0) ≡ false
-    none n = grind (arith, nat_tests)
+    by_tests : (a b c d : Bool) → (list_any (λ x. p x || q x) xs ≡ true → (c ≡ true) ⊎ (d ≡ true)) → ((a || b) || list_any (λ x. p x || q x) xs) ≡ true → ((a || c) ≡ true) ⊎ ((b || d) ≡ true)
+    by_tests true b c d rest h = inl refl
+    by_tests false true c d rest h = inr refl
+    by_tests false false c d rest h = rest h
+
+either_twice : {A : Type 0} (p q : A → A → Bool) (xs : List A) → any_twice (λ x y. p x y || q x y) xs ≡ true → (any_twice p xs ≡ true) ⊎ (any_twice q xs ≡ true)
+either_twice p q [] h = absurd (false≢true h)
+either_twice p q (x ∷ xs) h = by_case (either_twice p q xs) (one_of_two (list_any (λ y. p x y || q x y) xs) (any_twice (λ x y. p x y || q x y) xs) h)
+  where
+    behind : (a b : Bool) → b ≡ true → (a || b) ≡ true
+    behind true b h = refl
+    behind false b h = h
+
+    by_case : (any_twice (λ x y. p x y || q x y) xs ≡ true → (any_twice p xs ≡ true) ⊎ (any_twice q xs ≡ true)) → (list_any (λ y. p x y || q x y) xs ≡ true) ⊎ (any_twice (λ x y. p x y || q x y) xs ≡ true) → (any_twice p (x ∷ xs) ≡ true) ⊎ (any_twice q (x ∷ xs) ≡ true)
+    by_case rest (inl here) = elim (either_any (p x) (q x) xs here) [
+      | inl h ↦ inl (ap (λ b. b || any_twice p xs) h)
+      | inr h ↦ inr (ap (λ b. b || any_twice q xs) h)
+    ]
+    by_case rest (inr later) = elim (rest later) [
+      | inl h ↦ inl (behind (list_any (p x) xs) (any_twice p xs) h)
+      | inr h ↦ inr (behind (list_any (q x) xs) (any_twice q xs) h)
+    ]
+
+first_any : {A : Type 0} (p q : A → Bool) (xs : List A) → list_any (λ x. p x || q x) xs ≡ false → (list_any p xs ≡ false) × (list_any q xs ≡ false)
+first_any p q [] h = (refl, refl)
+first_any p q (x ∷ xs) h =
+    let both = not_either (p x || q x) (list_any (λ x. p x || q x) xs) h in
+    let here = not_either (p x) (q x) both.0 in
+    let rest = first_any p q xs both.1 in
+    (ap (λ b. b || list_any p xs) here.0 ∙ rest.0, ap (λ b. b || list_any q xs) here.1 ∙ rest.1)
+
+neither_twice : {A : Type 0} (p q : A → A → Bool) (xs : List A) → any_twice (λ x y. p x y || q x y) xs ≡ false → (any_twice p xs ≡ false) × (any_twice q xs ≡ false)
+neither_twice p q [] h = (refl, refl)
+neither_twice p q (x ∷ xs) h =
+    let both = not_either (list_any (λ y. p x y || q x y) xs) (any_twice (λ x y. p x y || q x y) xs) h in
+    let here = first_any (p x) (q x) xs both.0 in
+    let rest = neither_twice p q xs both.1 in
+    (ap (λ b. b || any_twice p xs) here.0 ∙ rest.0, ap (λ b. b || any_twice q xs) here.1 ∙ rest.1)
 
 -- ---- texts that aren't refused
 
@@ -48,12 +97,6 @@ unless_false false r (Meant x ss) h = refl
 both_good : {A B C : Type 0} (f : A → B → C) (k : Checked A) (l : Checked B) (x : A) (y : B) → k ≡ good x → l ≡ good y → both f k l ≡ good (f x y)
 both_good f k l x y h g = ap (λ k. both f k l) h ∙ ap (both f (good x)) g
 
-none_known : {A B : Type 0} (f : A → Checked B) (xs : List A) → xs ≡ [] → known_all (map f xs) ≡ good []
-none_known f xs h = ap (λ xs. known_all (map f xs)) h
-
-none_twice : {A : Type 0} (same : A → A → Bool) (xs : List A) → xs ≡ [] → any_twice same xs ≡ false
-none_twice same xs h = ap (any_twice same) h
-
 -- ---- the columns
 
 heads : {A B : Type 0} (f : A → B) (x : A) (y : B) (xs : List A) (ys : List B) → f x ∷ map f xs ≡ y ∷ ys → (f x ≡ y) × (map f xs ≡ ys)
@@ -68,17 +111,87 @@ known_columns (c ∷ cs) (column ∷ columns) same =
     both_good (λ (x : TableColumn) xs. x ∷ xs) (column_of c) (known_all (map column_of cs)) (as_column column) (map as_column columns)
     (sym (ap (λ x. x.1) parts.0)) (known_columns cs columns parts.1)
 
+pub named_columns : (cs : List ColumnDefinition) (columns : List Column) → map described columns ≡ map defined cs → map (λ c. c.name) columns ≡ map (λ c. c.name) cs
+named_columns [] [] same = refl
+named_columns [] (column ∷ columns) same = absurd cc
+named_columns (c ∷ cs) [] same = absurd cc
+named_columns (c ∷ cs) (column ∷ columns) same =
+    let parts = heads described column (defined c) columns (map defined cs) same in
+    let h : column.name ≡ c.name = ap (λ x. x.0) parts.0 in
+    let k = named_columns cs columns parts.1 in
+    cc
+
 -- ---- the table
 
-pub listed_made : (d : TableDefinition) → has_no_keys d ≡ true → (t : Table) → has_doubled d.columns ≡ false → HasColumnsOf d t → HasChecksOf d t → table_made d ≡ good (with_rows t [], [])
-listed_made d plain t once same checks =
-    let no_keys = no_items (keys_of d) plain in
-    unless_false (has_doubled d.columns) Misuse _ once
-    ∙ unless_false _ Misuse _ (none_twice _ (keys_of d) no_keys)
-    ∙ unless_false _ Misuse _ (none_twice _ (keys_of d) no_keys)
-    ∙ then_good (known_all (map column_of d.columns)) (map as_column t.columns) _ (known_columns d.columns t.columns same)
-    ∙ then_good (checks_known d t.columns) t.checks _ checks
-    ∙ then_good _ [] _ (none_known _ (keys_of d) no_keys)
+module _ (d : TableDefinition) (plain : has_rowid_key d ≡ false) (t : Table) (once : has_doubled d.columns ≡ false) (same : HasColumnsOf d t) (keys : HasKeysOf d t) where
+  names : map (λ (c : Column). c.name) t.columns ≡ map (λ (c : ColumnDefinition). c.name) d.columns
+  names = named_columns d.columns t.columns same
+
+  alone : is_twice_named t.columns ≡ false
+  alone = ap (any_twice is_same_name) names ∙ once
+
+  abbrev source : ScopeSource
+  source = new_source d.name (map as_column t.columns)
+
+  source_is : source ≡ source_seen d.name t
+  source_is = ap (λ (cs : List TableColumn). table_source d.name (without_rows cs None [])) (firsts_once t.columns alone)
+
+  abbrev looked : WrittenKey → Checked (List ℕ)
+  looked key = resolve_places source key.1
+
+  abbrev paired_key : List ℕ → List (ℕ × Collation)
+  paired_key is = map (λ (i : ℕ). (i, collation_at (map as_column t.columns) i)) is
+
+  abbrev pairs : Checked (List (WrittenKey × List ℕ))
+  pairs = known_all (map (with_item looked) (keys_of d))
+
+  not_doubled : any_twice are_doubled (keys_of d) ≡ false
+  not_doubled = (unless_good (any_twice are_doubled (keys_of d)) Misuse (known_all (map (λ (key : WrittenKey). places_known d.name t.columns key.1) (keys_of d))) (map key_columns t.keys) keys).0
+
+  pairs_are : (ps : List (WrittenKey × List ℕ)) × (pairs ≡ good ps) × (map (λ (p : WrittenKey × List ℕ). paired_key p.1) ps ≡ map key_columns t.keys)
+  pairs_are = map_good (map (λ (p : WrittenKey × List ℕ). paired_key p.1)) pairs (map key_columns t.keys)
+      (sym (paired looked (λ k is. paired_key is) (keys_of d))
+      ∙ (unless_good (any_twice are_doubled (keys_of d)) Misuse (known_all (map (λ (key : WrittenKey). places_known d.name t.columns key.1) (keys_of d))) (map key_columns t.keys) keys).1)
+
+  abbrev as_places : WrittenKey × List ℕ → Bool × List ℕ
+  as_places p = (p.0.0, p.1)
+
+  resolved : (ps : List (WrittenKey × List ℕ)) → pairs ≡ good ps → known_all (map (λ (k : WrittenKey). known_map (λ is. (k.0, is)) (looked k)) (keys_of d)) ≡ good (map as_places ps)
+  resolved ps is = paired looked (λ k is. (k.0, is)) (keys_of d) ∙ ap (known_map (map as_places)) is
+
+  all_none : (ps : List (WrittenKey × List ℕ)) → AllByRecursion (λ (p : WrittenKey × List ℕ). looked p.0 ≡ good p.1) ps → list_any (is_rowid_key d.columns) (map (λ (p : WrittenKey × List ℕ). p.0) ps) ≡ false
+      → AllByRecursion (λ (k : Bool × List ℕ). rowid_key d.columns k ≡ None) (map as_places ps)
+  all_none [] each none = tt
+  all_none (p ∷ ps) each none =
+      let both = not_either (is_rowid_key d.columns p.0) (list_any (is_rowid_key d.columns) (map (λ (p : WrittenKey × List ℕ). p.0) ps)) none in
+      (no_rowid d.columns t names alone d.name p.0 p.1 (subst (λ (s : ScopeSource). resolve_places s p.0.1 ≡ good p.1) source_is each.0) both.0, all_none ps each.1 both.1)
+
+  places_mapped : (ps : List (WrittenKey × List ℕ)) → map (λ (k : Bool × List ℕ). paired_key k.1) (map as_places ps) ≡ map (λ (p : WrittenKey × List ℕ). paired_key p.1) ps
+  places_mapped [] = refl
+  places_mapped (p ∷ ps) = ap (λ zs. paired_key p.1 ∷ zs) (places_mapped ps)
+
+  abbrev made_of : Option ℕ → List (Bool × List ℕ) → Checked (database.Table × List (List (ℕ × Collation)))
+  made_of own ks = good (without_rows (map as_column t.columns) own t.checks, map (λ (k : Bool × List ℕ). paired_key k.1) ks)
+
+  keys_made : (ps : List (WrittenKey × List ℕ)) → pairs ≡ good ps → map (λ (p : WrittenKey × List ℕ). paired_key p.1) ps ≡ map key_columns t.keys
+      → made_of (first_some (rowid_key d.columns) (map as_places ps)) (filter (has_no_rowid_key d.columns) (map as_places ps)) ≡ good (with_rows t [], map key_columns t.keys)
+  keys_made ps is are =
+      let held = pairs_hold looked (keys_of d) ps is in
+      let none = all_none ps held.each (ap (list_any (is_rowid_key d.columns)) held.items ∙ plain) in
+      ap (λ (o : Option ℕ). made_of o (filter (has_no_rowid_key d.columns) (map as_places ps))) (none_first d.columns (map as_places ps) none)
+      ∙ (ap (made_of None) (all_kept d.columns (map as_places ps) none)
+      ∙ ap (λ (ks : List (List (ℕ × Collation))). good (with_rows t [], ks)) (places_mapped ps ∙ are))
+
+  pub listed_made : HasChecksOf d t → table_made d ≡ good (with_rows t [], map key_columns t.keys)
+  listed_made checks =
+      let apart = neither_twice (λ (k l : WrittenKey). k.0 && l.0) (λ (k l : WrittenKey). pointwise is_same_name k.1 l.1) (keys_of d) not_doubled in
+      unless_false (has_doubled d.columns) Misuse _ once
+      ∙ unless_false _ Misuse _ apart.0
+      ∙ unless_false _ Misuse _ apart.1
+      ∙ then_good (known_all (map column_of d.columns)) (map as_column t.columns) _ (known_columns d.columns t.columns same)
+      ∙ then_good (checks_known d t.columns) t.checks _ checks
+      ∙ then_good _ (map as_places pairs_are.0) _ (resolved pairs_are.0 pairs_are.1)
+      ∙ keys_made pairs_are.0 pairs_are.1 pairs_are.2
 
 -- ---- the database
 
@@ -91,10 +204,6 @@ something : (found : Option Object) → is_some found ≡ true → (o : Object) 
 something None h = absurd (false≢true h)
 something (Some o) h = (o, refl)
 
-abbrev with_each : Database → List (Name × Object) → Database
-with_each db [] = db
-with_each db (o ∷ os) = with_each (put name_order o.0 o.1 db) os
-
 -- an object whose name is free and new, and what is made of the database with it
 is_added : (f : Database → Database) (db : Database) (n : Name) (o : Object) (reserved : Bool) (taken : Option Object) → reserved ≡ false → taken ≡ None
     → known_map f (unless reserved Misuse (unless (is_some taken) Exists (known_map (with_object db n) (good o)))) ≡ good (f (with_object db n o))
@@ -103,10 +212,10 @@ is_added f db n o reserved taken free fresh =
     ∙ ap (λ t. known_map f (unless false Misuse (unless (is_some t) Exists (known_map (with_object db n) (good o))))) fresh
 
 pub makes_by : NamesListed → MakesListedTable
-makes_by names rows_at tables db d t lists plain fresh same checks =
-    then_good (table_made d) (with_rows t [], []) _ (listed_made d plain t fresh.once same checks)
-    ∙ is_added (λ after. with_each after (automatic d.name 1 [])) db d.name (ATable (with_rows t [])) (is_reserved d.name) (object db d.name) fresh.free
-    (nothing (object db d.name) (names rows_at tables db d.name lists ∙ fresh.new))
+makes_by listed_names rows_at tables db d t lists plain fresh same checks keys =
+    then_good (table_made d) (with_rows t [], map key_columns t.keys) _ (listed_made d plain t fresh.once same keys checks)
+    ∙ is_added (λ after. with_objects after (automatic d.name 1 (map key_columns t.keys))) db d.name (ATable (with_rows t [])) (is_reserved d.name) (object db d.name) fresh.free
+    (nothing (object db d.name) (listed_names rows_at tables db d.name lists ∙ fresh.new))
 
 -- ---- refusals
 
@@ -142,6 +251,28 @@ both_second f (Meant x rs) (Meant y ss) r h = record { among = Contains-append_r
 map_has : {A B : Type 0} (f : A → B) (k : Checked A) (r : Refusal) → Has k r → Has (known_map f k) r
 map_has f (Meant x rs) r h = record { among = h.among }
 
+-- a refusal is that of the test, or comes after it
+unless_cases : {A : Type 0} (b : Bool) (r s : Refusal) (k : Checked A) → Contains (faults (unless b r k)) s → ((s ≡ r) × (b ≡ true)) ⊎ Contains (faults k) s
+unless_cases true r s (Meant x ss) h = elim (Contains-append_cases (r ∷ []) ss s h) [
+  | inl here ↦ inl (only_one here, refl)
+  | inr rest ↦ inr rest
+]
+  where
+    only_one : Contains (r ∷ []) s → s ≡ r
+    only_one (zero, less, e) = sym e
+    only_one (suc n, less, e) = absurd (omega (arith, less))
+unless_cases false r s (Meant x ss) h = inr h
+
+-- the CHECKs and keys of a definition over these columns, and the table
+abbrev rules_made : TableDefinition → List TableColumn → Checked (database.Table × List (List (ℕ × Collation)))
+rules_made d columns =
+    known_all (map (resolve false (new_source d.name columns ∷ [])) (checks_of d)) and_then λ checks.
+    known_all (map (resolve_key (new_source d.name columns)) (keys_of d)) and_then λ keys.
+    good (
+      without_rows columns (first_some (rowid_key d.columns) keys) checks,
+      map (λ k. map (λ i. (i, collation_at columns i)) k.1) (filter (has_no_rowid_key d.columns) keys),
+    )
+
 module _ (db : Database) (d : TableDefinition) where
   -- the new object, and with the test whether another has its name
   abbrev placed : Checked Database
@@ -151,10 +282,10 @@ module _ (db : Database) (d : TableDefinition) where
   tried = unless (is_some (object db d.name)) Exists placed
 
   reserved_refused : is_reserved d.name ≡ true → Has (create_table db d) Misuse
-  reserved_refused h = then_later (table_made d) _ Misuse (map_has (λ after. with_each after (automatic d.name 1 (meant (table_made d)).1)) _ Misuse (unless_has (is_reserved d.name) Misuse tried h))
+  reserved_refused h = then_later (table_made d) _ Misuse (map_has (λ after. with_objects after (automatic d.name 1 (meant (table_made d)).1)) _ Misuse (unless_has (is_reserved d.name) Misuse tried h))
 
   taken_refused : (o : Object) → object db d.name ≡ Some o → Has (create_table db d) Exists
-  taken_refused o h = then_later (table_made d) _ Exists (map_has (λ after. with_each after (automatic d.name 1 (meant (table_made d)).1)) _ Exists (unless_later (is_reserved d.name) Misuse Exists tried (unless_has (is_some (object db d.name)) Exists placed (ap is_some h))))
+  taken_refused o h = then_later (table_made d) _ Exists (map_has (λ after. with_objects after (automatic d.name 1 (meant (table_made d)).1)) _ Exists (unless_later (is_reserved d.name) Misuse Exists tried (unless_has (is_some (object db d.name)) Exists placed (ap is_some h))))
 
   doubled_refused : has_doubled d.columns ≡ true → Has (create_table db d) Misuse
   doubled_refused h = then_has (table_made d) _ Misuse (unless_has (has_doubled d.columns) Misuse _ h)
@@ -164,25 +295,68 @@ module _ (db : Database) (d : TableDefinition) where
       (unless_later (has_doubled d.columns) Misuse r _ (unless_later _ Misuse r _ (unless_later _ Misuse r _
       (then_has (known_all (map column_of d.columns)) _ r (record { among = h })))))
 
-  check_refused : (r : Refusal) → IsCheckRefusal d r → Has (create_table db d) r
-  check_refused r (columns, same, h) = then_has (table_made d) _ r
+  -- past the tests of doubled columns and keys, where the columns are known
+  in_rules : (r : Refusal) (columns : List Column) → map described columns ≡ map defined d.columns → ((cs : List TableColumn) → cs ≡ map as_column columns → Has (rules_made d cs) r) → Has (create_table db d) r
+  in_rules r columns same has = then_has (table_made d) _ r
       (unless_later (has_doubled d.columns) Misuse r _ (unless_later _ Misuse r _ (unless_later _ Misuse r _
       (then_later (known_all (map column_of d.columns)) _ r
-      (then_has (known_all (map (resolve false (new_source d.name (meant (known_all (map column_of d.columns))) ∷ [])) (checks_of d))) _ r (record {
-        among = subst (λ (cs : List TableColumn). Contains (faults (known_all (map (resolve false (new_source d.name cs ∷ [])) (checks_of d)))) r)
-            (sym (ap meant (known_columns d.columns columns same))) h;
-      }))))))
+      (has (meant (known_all (map column_of d.columns))) (ap meant (known_columns d.columns columns same)))))))
+
+  check_refused : (r : Refusal) (columns : List Column) → map described columns ≡ map defined d.columns → Contains (faults (checks_known d columns)) r → Has (create_table db d) r
+  check_refused r columns same h = in_rules r columns same (λ cs are.
+      then_has (known_all (map (resolve false (new_source d.name cs ∷ [])) (checks_of d))) _ r (record {
+        among = subst (λ (cs : List TableColumn). Contains (faults (known_all (map (resolve false (new_source d.name cs ∷ [])) (checks_of d)))) r) (sym are) h;
+      }))
+
+  twice_refused : any_twice are_doubled (keys_of d) ≡ true → Has (create_table db d) Misuse
+  twice_refused h = then_has (table_made d) _ Misuse (unless_later (has_doubled d.columns) Misuse Misuse _
+      (by_test _ (either_twice (λ (k l : WrittenKey). k.0 && l.0) (λ (k l : WrittenKey). pointwise is_same_name k.1 l.1) (keys_of d) h)))
+    where
+      by_test : {A : Type 0} (k : Checked A) → (any_twice (λ (k l : WrittenKey). k.0 && l.0) (keys_of d) ≡ true) ⊎ (any_twice (λ (k l : WrittenKey). pointwise is_same_name k.1 l.1) (keys_of d) ≡ true)
+          → Has (unless (any_twice (λ (k l : WrittenKey). k.0 && l.0) (keys_of d)) Misuse (unless (any_twice (λ (k l : WrittenKey). pointwise is_same_name k.1 l.1) (keys_of d)) Misuse k)) Misuse
+      by_test k (inl h) = unless_has _ Misuse _ h
+      by_test k (inr h) = unless_later _ Misuse Misuse _ (unless_has _ Misuse _ h)
+
+  places_refused : (r : Refusal) (columns : List Column) → map described columns ≡ map defined d.columns → Contains (faults (known_all (map (λ (key : WrittenKey). places_known d.name columns key.1) (keys_of d)))) r
+      → Has (create_table db d) r
+  places_refused r columns same h = in_rules r columns same (λ cs are.
+      then_later (known_all (map (resolve false (new_source d.name cs ∷ [])) (checks_of d))) _ r
+      (then_has (known_all (map (resolve_key (new_source d.name cs)) (keys_of d))) _ r (record {
+        among = subst (λ (cs : List TableColumn). Contains (faults (known_all (map (resolve_key (new_source d.name cs)) (keys_of d)))) r) (sym are) (as_resolved h);
+      })))
+    where
+      places : WrittenKey → Checked (List ℕ)
+      places key = resolve_places (new_source d.name (map as_column columns)) key.1
+
+      same_faults : {A B : Type 0} (f : A → B) (k : Checked A) → faults (known_map f k) ≡ faults k
+      same_faults f (Meant x rs) = refl
+
+      as_resolved : Contains (faults (known_all (map (λ (key : WrittenKey). places_known d.name columns key.1) (keys_of d)))) r
+          → Contains (faults (known_all (map (resolve_key (new_source d.name (map as_column columns))) (keys_of d)))) r
+      as_resolved h = subst (λ rs. Contains rs r)
+          (ap faults (paired places (λ k is. map (λ (i : ℕ). (i, collation_at (map as_column columns) i)) is) (keys_of d)) ∙ (same_faults _ (known_all (map (with_item places) (keys_of d)))
+          ∙ (sym (same_faults _ (known_all (map (with_item places) (keys_of d)))) ∙ sym (ap faults (paired places (λ k is. (k.0, is)) (keys_of d)))))) h
+
+  key_refused : (r : Refusal) (columns : List Column) → map described columns ≡ map defined d.columns → Contains (faults (table_keys_known d columns)) r → Has (create_table db d) r
+  key_refused r columns same h = elim (unless_cases (any_twice are_doubled (keys_of d)) Misuse r (known_all (map (λ (key : WrittenKey). places_known d.name columns key.1) (keys_of d))) h) [
+    | inl (e, twice) ↦ subst (Has (create_table db d)) (sym e) (twice_refused twice)
+    | inr rest ↦ places_refused r columns same rest
+  ]
+
+  rule_refused : (r : Refusal) → IsRuleRefusal d r → Has (create_table db d) r
+  rule_refused r (columns, same, inl h) = check_refused r columns same h
+  rule_refused r (columns, same, inr h) = key_refused r columns same h
 
   refused_so : (r s : Refusal) → r ≡ s → Has (create_table db d) s → Contains (faults (create_table db d)) r
   refused_so r s e h = subst (Contains (faults (create_table db d))) (sym e) h.among
 
 pub refuses_by : NamesListed → RefusesTableAsDefined
-refuses_by names rows_at tables db d r lists (inl (e, h)) = refused_so db d r Misuse e (reserved_refused db d h)
-refuses_by names rows_at tables db d r lists (inr (inl (e, h))) =
-    let (o, is) = something (object db d.name) (names rows_at tables db d.name lists ∙ h) in refused_so db d r Exists e (taken_refused db d o is)
-refuses_by names rows_at tables db d r lists (inr (inr (inl (e, h)))) = refused_so db d r Misuse e (doubled_refused db d h)
-refuses_by names rows_at tables db d r lists (inr (inr (inr (inl h)))) = (column_refused db d r h).among
-refuses_by names rows_at tables db d r lists (inr (inr (inr (inr h)))) = (check_refused db d r h).among
+refuses_by listed_names rows_at tables db d r lists (inl (e, h)) = refused_so db d r Misuse e (reserved_refused db d h)
+refuses_by listed_names rows_at tables db d r lists (inr (inl (e, h))) =
+    let (o, is) = something (object db d.name) (listed_names rows_at tables db d.name lists ∙ h) in refused_so db d r Exists e (taken_refused db d o is)
+refuses_by listed_names rows_at tables db d r lists (inr (inr (inl (e, h)))) = refused_so db d r Misuse e (doubled_refused db d h)
+refuses_by listed_names rows_at tables db d r lists (inr (inr (inr (inl h)))) = (column_refused db d r h).among
+refuses_by listed_names rows_at tables db d r lists (inr (inr (inr (inr h)))) = (rule_refused db d r h).among
 
 pub makes_table : MakesListedTable
 makes_table = makes_by names_listed
@@ -205,16 +379,6 @@ at_end p (y ∷ xs) x t h = by_test (at_end p xs x t) (p y) h
     by_test rest true h = inl h
     by_test rest false h = rest h
 
-pub named_columns : (cs : List ColumnDefinition) (columns : List Column) → map described columns ≡ map defined cs → map (λ c. c.name) columns ≡ map (λ c. c.name) cs
-named_columns [] [] same = refl
-named_columns [] (column ∷ columns) same = absurd cc
-named_columns (c ∷ cs) [] same = absurd cc
-named_columns (c ∷ cs) (column ∷ columns) same =
-    let parts = heads described column (defined c) columns (map defined cs) same in
-    let h : column.name ≡ c.name = ap (λ x. x.0) parts.0 in
-    let k = named_columns cs columns parts.1 in
-    cc
-
 pub keeps_once : KeepsNamesOnce
 keeps_once tables d t each once same name u found = elim (at_end (is_table name) tables t u found) [
   | inl h ↦ each name u h
@@ -223,12 +387,13 @@ keeps_once tables d t each once same name u found = elim (at_end (is_table name)
 
 -- ---- definitions that aren't refused
 
--- the name may be given, no two columns have one name, and no column and no CHECK is refused
+-- the name may be given, no two columns have one name, and no column, CHECK and key is refused
 pub record IsAccepted (d : TableDefinition) : Type 0 where
   pub free : is_reserved d.name ≡ false
   pub once : has_doubled d.columns ≡ false
   pub known : faults (known_all (map column_of d.columns)) ≡ []
   pub checked : (columns : List Column) → map described columns ≡ map defined d.columns → faults (checks_known d columns) ≡ []
+  pub keyed : (columns : List Column) → map described columns ≡ map defined d.columns → faults (table_keys_known d columns) ≡ []
 
 -- a list without items, if there is no item in another that each of its own is in
 none_in : (rs : List Refusal) (k : Checked Database) → faults k ≡ [] → ((r : Refusal) → Contains rs r → Has k r) → rs ≡ []
@@ -244,5 +409,6 @@ accepted db d none = record {
   free = not_so (create_table db d) Misuse (is_reserved d.name) none (reserved_refused db d);
   once = not_so (create_table db d) Misuse (has_doubled d.columns) none (doubled_refused db d);
   known = none_in (faults (known_all (map column_of d.columns))) (create_table db d) none (column_refused db d);
-  checked = λ columns same. none_in (faults (checks_known d columns)) (create_table db d) none (λ r h. check_refused db d r (columns, same, h));
+  checked = λ columns same. none_in (faults (checks_known d columns)) (create_table db d) none (λ r h. check_refused db d r columns same h);
+  keyed = λ columns same. none_in (faults (table_keys_known d columns)) (create_table db d) none (λ r h. key_refused db d r columns same h);
 }

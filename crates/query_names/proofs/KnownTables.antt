@@ -23,7 +23,7 @@ view_in db name v = unless_around [] name (
 
 no_table : (view : View → Checked (List ScopeColumn × Bool)) (found : Option Object) → IsNoTable found → columns_of_object view found ≡ looked_up None
 no_table view found (inl none) = ap (columns_of_object view) none
-no_table view found (inr (i, is, plain)) = ap (columns_of_object view) is
+no_table view found (inr (i, is)) = ap (columns_of_object view) is
 
 of_table : (rows_at : ℕ → List (ℤ × List Value)) (view : View → Checked (List ScopeColumn × Bool)) (found : Option Object) (t : Option Table)
     → MatchOption t (IsNoTable found) (λ t. found ≡ Some (ATable (with_rows t (rows_at t.root)))) → columns_of_object view found ≡ looked_up t

@@ -8,13 +8,14 @@ pub mod CreatedTables
 mod FirstColumns
 mod FormRows
 pub mod InsertNames
+mod KeyNames
 pub mod KnownTables
-mod NoKeys
 pub mod PartRefusals
 pub mod PlainFlows
 mod QueryRows
 pub mod QuietNames
 mod ResultRows
+pub mod TableKeys
 pub mod Trees
 mod ViewRows
 pub mod Written

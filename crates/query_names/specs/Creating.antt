@@ -1,29 +1,39 @@
--- CREATE TABLE of a definition without keys: the table that it makes, and what refuses it.
-use Rattle.std.specs.Prelude.{◌≡◌, ◌⊎◌, ℕ, ℤ, Bool, true, false, ◌==◌, List, [], ◌∷◌, ◌++◌, length, map}
-use Rattle.std.specs.List.{Contains}
+-- CREATE TABLE of a definition whose columns aren't other names of the rowid: the table that it makes, and what refuses it (SQL As
+-- Understood By SQLite, "CREATE TABLE").
+use Rattle.std.specs.Prelude.{◌≡◌, ◌⊎◌, ◌&&◌, ◌||◌, ℕ, ℤ, Bool, true, false, List, [], ◌∷◌, ◌++◌, Some, map}
+use Rattle.std.specs.List.{Contains, list_any}
+use Rattle.std.specs.Cmp.Lexicographic.{pointwise}
 use Rattle.sqlval.specs.Lists.{any_twice}
 use Rattle.sqlval.specs.Names.{is_same_name}
 use Rattle.sqlval.specs.Refusals.{Refusal, Exists, Misuse}
+use Rattle.sqlval.specs.declared.collation.Collation.{Collation}
 use Rattle.sqlval.specs.declared.value.Value.{Value}
 use Rattle.sql_syntax.specs.Tree.{Tree}
 use Rattle.sql_syntax.specs.declared.create.ColumnDefinition.{ColumnDefinition}
 use Rattle.sql_syntax.specs.declared.create.NewObject.TheVariants as new
 use Rattle.sql_syntax.specs.declared.create.TableDefinition.{TableDefinition}
 use Rattle.catalog.specs.Database.{Database, Name, ATable, TableColumn, with_object}
-use Rattle.catalog.specs.Listed.{Lists, as_column, is_name_of, is_reserved, with_rows}
+use Rattle.catalog.specs.Listed.{Lists, as_column, is_name_of, is_reserved, key_columns, with_rows}
 use Rattle.catalog.specs.declared.tables.Column.{Column}
 use Rattle.catalog.specs.declared.tables.Table.{Table}
 use Rattle.query_names.specs.Bound.{AreOnce}
 use Rattle.query_terms.specs.Terms.{Term}
-use Rattle.query_names.specs.Checked.{Checked, good, faults, known_all, onto_list}
+use Rattle.query_names.specs.Checked.{Checked, good, faults, known_all, known_map, onto_list, unless}
 use Rattle.query_names.specs.Expressions.{resolve}
-use Rattle.query_names.specs.Schema.{create}
-use Rattle.query_names.specs.Tables.{checks_of, column_of, keys_of, new_source}
+use Rattle.query_names.specs.Schema.{automatic, create, with_objects}
+use Rattle.query_names.specs.Tables.{WrittenKey, checks_of, collation_at, column_of, is_integer, keys_of, new_source}
+use Rattle.query_names.specs.Scopes.{resolve_places}
+use Rattle.query_names.specs.declared.keys.WrittenKey as keys
 use Rattle.query_names.specs.declared.scope.ScopeSource.{ScopeSource}
 
--- neither the table nor one of its columns has a UNIQUE or a PRIMARY KEY
-abbrev pub has_no_keys : TableDefinition → Bool
-has_no_keys d = length (keys_of d) == 0
+-- the key is a PRIMARY KEY of one column, whose type is the one word INTEGER
+abbrev pub is_rowid_key : List ColumnDefinition → WrittenKey → Bool
+is_rowid_key cs (true, n ∷ []) = list_any (λ c. is_same_name n c.name && is_integer (Some c)) cs
+is_rowid_key cs _ = false
+
+-- one of its keys makes a column another name of the rowid
+abbrev pub has_rowid_key : TableDefinition → Bool
+has_rowid_key d = list_any (is_rowid_key d.columns) (keys_of d)
 
 -- two of the columns have one name
 abbrev pub has_doubled : List ColumnDefinition → Bool
@@ -60,26 +70,48 @@ checks_known d columns = known_all (map (resolve false (new_source d.name (map a
 abbrev pub HasChecksOf : TableDefinition → Table → Type 0
 HasChecksOf d t = checks_known d t.columns ≡ good t.checks
 
--- a CHECK is refused over the columns of the definition
-abbrev pub IsCheckRefusal : TableDefinition → Refusal → Type 0
-IsCheckRefusal d r = (columns : List Column) × (map described columns ≡ map defined d.columns) × Contains (faults (checks_known d columns)) r
+-- both are primary, or they are of the same columns
+abbrev pub are_doubled : WrittenKey → WrittenKey → Bool
+are_doubled k l = k.0 && l.0 || pointwise is_same_name k.1 l.1
+
+-- the columns of these names among those of a table, none of them twice: the places, each with its collation
+abbrev pub places_known : Name → List Column → List Name → Checked (List (ℕ × Collation))
+places_known table columns names =
+    known_map (map (λ i. (i, collation_at (map as_column columns) i))) (resolve_places (new_source table (map as_column columns)) names)
+
+-- a key as it is written
+abbrev pub as_written : keys.WrittenKey → WrittenKey
+as_written key = (key.is_primary, key.names.now)
+
+-- the columns of each index that the keys of a definition ask for, over these columns; no two keys may be doubled
+abbrev pub table_keys_known : TableDefinition → List Column → Checked (List (List (ℕ × Collation)))
+table_keys_known d columns = unless (any_twice are_doubled (keys_of d)) Misuse (known_all (map (λ key. places_known d.name columns key.1) (keys_of d)))
+
+-- the table has the definition's keys
+abbrev pub HasKeysOf : TableDefinition → Table → Type 0
+HasKeysOf d t = table_keys_known d t.columns ≡ good (map key_columns t.keys)
+
+-- a CHECK or a key is refused over the columns of the definition
+abbrev pub IsRuleRefusal : TableDefinition → Refusal → Type 0
+IsRuleRefusal d r = (columns : List Column) × (map described columns ≡ map defined d.columns)
+    × (Contains (faults (checks_known d columns)) r ⊎ Contains (faults (table_keys_known d columns)) r)
 
 -- Why a definition is refused beside these tables: its name is reserved, a table or an index has it, two columns have one name, or a
--- column or a CHECK is refused.
+-- column, a CHECK or a key is refused.
 abbrev pub IsCreateRefusal : List Table → TableDefinition → Refusal → Type 0
 IsCreateRefusal tables d r =
     (r ≡ Misuse) × (is_reserved d.name ≡ true)
     ⊎ (((r ≡ Exists) × (is_name_of tables d.name ≡ true))
     ⊎ (((r ≡ Misuse) × (has_doubled d.columns ≡ true))
     ⊎ (Contains (faults (known_all (map column_of d.columns))) r
-    ⊎ IsCheckRefusal d r)))
+    ⊎ IsRuleRefusal d r)))
 
--- A table with the columns and CHECKs of a definition without keys, where nothing is in its way, is the one that CREATE TABLE makes:
--- under its name, without rows, and not refused.
+-- A table with the columns, CHECKs and keys of a definition, where nothing is in its way, is the one that CREATE TABLE makes: under its name,
+-- without rows, with the indexes that its keys ask for, and not refused.
 abbrev pub MakesListedTable : Type 0
 MakesListedTable = (rows_at : ℕ → List (ℤ × List Value)) (tables : List Table) (db : Database) (d : TableDefinition) (t : Table)
-    → Lists rows_at tables db → has_no_keys d ≡ true → IsNewBeside tables d → HasColumnsOf d t → HasChecksOf d t
-    → create db (new.Table d) ≡ good (with_object db d.name (ATable (with_rows t [])))
+    → Lists rows_at tables db → has_rowid_key d ≡ false → IsNewBeside tables d → HasColumnsOf d t → HasChecksOf d t → HasKeysOf d t
+    → create db (new.Table d) ≡ good (with_objects (with_object db d.name (ATable (with_rows t []))) (automatic d.name 1 (map key_columns t.keys)))
 
 -- Why a definition is refused beside the listed tables is among the refusals of its CREATE TABLE.
 abbrev pub RefusesTableAsDefined : Type 0

@@ -30,7 +30,8 @@ added db n o = unless (is_reserved n) Misuse (unless (is_some (object db n)) Exi
 
 -- ---- tables
 
-abbrev automatic_name : Name → ℕ → Name
+-- the name of the index that a table's key of this number makes
+abbrev pub automatic_name : Name → ℕ → Name
 automatic_name table n = codes "sqlite_autoindex_" ++ table ++ codes "_" ++ decimal n
 
 -- the indexes that a table's keys make, numbered from n (Database File Format, "Alternative Names For The Schema Table")
@@ -39,7 +40,8 @@ automatic table n [] = []
 automatic table n (k ∷ ks) =
     (folded (automatic_name table n), AnIndex (record { table = folded table; is_unique = true; is_automatic = true; columns = k })) ∷ automatic table (suc n) ks
 
-abbrev with_objects : Database → List (Name × Object) → Database
+-- with these objects, one after another
+abbrev pub with_objects : Database → List (Name × Object) → Database
 with_objects db [] = db
 with_objects db (o ∷ os) = with_objects (put name_order o.0 o.1 db) os
 

@@ -93,19 +93,19 @@ abbrev pub checks_of : TableDefinition → List Tree
 checks_of d = flat_map (λ c. flat_map column_check c.rules) d.columns ++ flat_map table_check d.rules
 
 -- the type is the one word INTEGER
-abbrev is_integer : Option ColumnDefinition → Bool
+abbrev pub is_integer : Option ColumnDefinition → Bool
 is_integer None = false
 is_integer (Some c) = pointwise is_same_name c.declared.words (codes "integer" ∷ []) && not c.declared.is_sized
 
 -- the one column of a primary key that is another name of the rowid (SQL As Understood By SQLite, "CREATE TABLE", "ROWIDs and the INTEGER PRIMARY KEY")
-abbrev rowid_key : List ColumnDefinition → Bool × List ℕ → Option ℕ
+abbrev pub rowid_key : List ColumnDefinition → Bool × List ℕ → Option ℕ
 rowid_key cs (true, i ∷ []) = if is_integer (slice_get cs i) then Some i else None
 rowid_key cs _ = None
 
-abbrev has_no_rowid_key : List ColumnDefinition → Bool × List ℕ → Bool
+abbrev pub has_no_rowid_key : List ColumnDefinition → Bool × List ℕ → Bool
 has_no_rowid_key cs k = elim (rowid_key cs k) [ None ↦ true | Some i ↦ false ]
 
-abbrev first_some : {A B : Type 0} → (A → Option B) → List A → Option B
+abbrev pub first_some : {A B : Type 0} → (A → Option B) → List A → Option B
 first_some f [] = None
 first_some f (x ∷ xs) = elim (f x) [ Some y ↦ Some y | None ↦ first_some f xs ]
 
@@ -113,7 +113,7 @@ first_some f (x ∷ xs) = elim (f x) [ Some y ↦ Some y | None ↦ first_some f
 abbrev pub collation_at : List TableColumn → ℕ → Collation
 collation_at cs i = elim (slice_get cs i) [ None ↦ Binary | Some c ↦ c.collation ]
 
-abbrev resolve_key : ScopeSource → WrittenKey → Checked (Bool × List ℕ)
+abbrev pub resolve_key : ScopeSource → WrittenKey → Checked (Bool × List ℕ)
 resolve_key s k = known_map (λ is. (k.0, is)) (resolve_places s k.1)
 
 -- ---- the table

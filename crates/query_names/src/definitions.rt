@@ -1,7 +1,7 @@
 //! The columns that a CREATE TABLE defines.
 
-ghost use Rattle.std.specs.Prelude.{◌≡◌, ◌⊎◌, ◌++◌, ◌∷◌, ◌==◌, [], false, true, flat_map, length, map, IfErr, IfOk, OnOk, option_map, string_bytes};
-ghost use Rattle.std.specs.List.{Contains, join_with_byte, list_all, list_any};
+ghost use Rattle.std.specs.Prelude.{◌≡◌, ◌⊎◌, ◌++◌, ◌∷◌, false, true, flat_map, map, IfErr, IfOk, OnOk, option_map, string_bytes};
+ghost use Rattle.std.specs.List.{Contains, join_with_byte, list_any};
 ghost use Rattle.sqlval.specs.Affinity.{declared_affinity};
 ghost use Rattle.sqlval.specs.Faults.{IsNotDiskFault};
 ghost use Rattle.sqlval.specs.Refusals.{refusal_of};
@@ -9,15 +9,14 @@ ghost use Rattle.sqlval.specs.declared.value.Value.TheVariants.{Null};
 ghost use Rattle.catalog.specs.Listed.{as_column, is_column, type_text};
 ghost use Rattle.query_names.specs.Bound.{IsFaultOf};
 ghost use Rattle.query_names.specs.Checked.{faults, known_all};
-ghost use Rattle.query_names.specs.Creating as plain;
 ghost use Rattle.query_names.specs.Creating.{defined, described, has_doubled};
-ghost use Rattle.query_names.specs.Named.{Names, NamesBy};
+ghost use Rattle.query_names.specs.Named.{Names};
 ghost use Rattle.query_names.specs.Tables as meant;
-ghost use Rattle.query_names.specs.Tables.{affinity_known, column_key, default_of, is_not_null, last_of, table_key};
+ghost use Rattle.query_names.specs.Tables.{affinity_known, default_of, is_not_null, last_of};
 
 use crate::functions::collation_named;
 use catalog::Column;
-use sql_syntax::{ColumnDefinition, ColumnRule, TableDefinition, TableRule};
+use sql_syntax::{ColumnDefinition, ColumnRule, TableDefinition};
 use sqlval::{Affinity, Collation, Fault, Feature, Many, Misuse, Name, R, Value, affinity_of};
 use std::alloc::Global;
 
@@ -170,47 +169,4 @@ pub fn bind_columns(alloc: Global, definition: &TableDefinition) -> R<Many<Colum
         columns.push(column_of(alloc, column)?)?;
     }
     Ok(Many::from_vec(columns))
-}
-
-/// Whether a rule of a column is neither UNIQUE nor PRIMARY KEY.
-fn is_no_key(rule: &ColumnRule) -> bool
-    ensures { result ≡ (length (column_key [] rule.now) == 0) }
-{
-    !matches!(rule, ColumnRule::PrimaryKey | ColumnRule::Unique)
-}
-
-/// Whether a column is no key by itself.
-fn has_no_key(column: &ColumnDefinition) -> bool
-    ensures { result ≡ list_all (λ r. length (column_key [] r) == 0) column.now.rules }
-{
-    column.rules.as_slice().iter().all(|rule| is_no_key(rule))
-}
-
-/// Whether none of the columns is a key by itself.
-fn have_no_key(columns: &[ColumnDefinition]) -> bool
-    ensures { result ≡ list_all (λ c. list_all
-        (λ r. length (column_key [] r) == 0) c.rules) columns.now }
-{
-    columns.iter().all(|column| has_no_key(column))
-}
-
-/// Whether a rule of a table is neither UNIQUE nor PRIMARY KEY.
-fn is_no_table_key(rule: &TableRule) -> bool
-    ensures { result ≡ (length (table_key rule.now) == 0) }
-{
-    matches!(rule, TableRule::Check(_))
-}
-
-/// Whether none of a table's rules is UNIQUE or PRIMARY KEY.
-fn have_no_table_key(rules: &[TableRule]) -> bool
-    ensures { result ≡ list_all (λ r. length (table_key r) == 0) rules.now }
-{
-    rules.iter().all(|rule| is_no_table_key(rule))
-}
-
-/// Whether neither the table nor one of its columns has a UNIQUE or a PRIMARY KEY.
-pub fn has_no_keys(definition: &TableDefinition) -> bool
-    ensures { result ≡ plain.has_no_keys definition.now }
-{
-    have_no_key(definition.columns.as_slice()) && have_no_table_key(definition.rules.as_slice())
 }

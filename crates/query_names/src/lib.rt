@@ -9,6 +9,7 @@ mod expressions;
 mod forms;
 mod functions;
 mod inserting;
+mod keys;
 mod names;
 mod queries;
 mod reading;
@@ -20,10 +21,11 @@ ghost use Rattle.query_names.specs.Laws.{CalmIsNotRefused, KnowsListed};
 
 use catalog::listed_tables_are_found;
 pub use checks::bind_checks;
-pub use definitions::{bind_columns, has_no_keys};
+pub use definitions::bind_columns;
 pub use expressions::bind_term;
 pub use functions::collation_named;
 pub use inserting::{BoundInsert, Target, bind_target};
+pub use keys::{automatic_name, bind_keys, has_rowid_key};
 pub use names::{find_table, missing};
 pub use queries::BoundSource;
 pub use reading::{Condition, Reading};
@@ -47,8 +49,8 @@ pub fn listed_tables_are_known()
     listed_tables_are_found();
 }
 
-/// A CREATE TABLE of a definition without keys, beside listed tables, makes the table of the definition's columns and CHECKs, or is
-/// refused for each cause that there is.
+/// A CREATE TABLE, beside listed tables, makes the table of the definition's columns, CHECKs and keys, with the indexes that these ask for, or
+/// is refused for each cause that there is. (A column that is another name of the rowid isn't supported.)
 pub fn tables_are_created_as_defined()
     ensures makes { MakesListedTable }
     ensures refuses { RefusesTableAsDefined }

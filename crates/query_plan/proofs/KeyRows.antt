@@ -36,7 +36,7 @@ abbrev pub second : IndexColumn
 second = record { place = 1; collation = Binary }
 
 abbrev index_on : List IndexColumn → Index
-index_on columns = record { name = codes "i"; columns = columns; is_unique = false; root = 3; rowid = pos 2 }
+index_on columns = record { name = codes "i"; columns = columns; is_unique = false; is_automatic = false; root = 3; rowid = pos 2 }
 
 abbrev pub on_a : Index
 on_a = index_on (first Binary ∷ [])

@@ -150,7 +150,7 @@ column = record { name = []; affinity = to.Blob; collation = Binary; is_filled =
 
 -- a table of so many columns
 abbrev some_table : ℕ → Table
-some_table width = record { name = []; columns = replicate width column; checks = []; indexes = []; root = 0; rowid = pos 0 }
+some_table width = record { name = []; columns = replicate width column; checks = []; keys = []; indexes = []; root = 0; rowid = pos 0 }
 
 word_first : (a b c : Bool) → (a && b && c && true) ≡ true → a ≡ true
 word_first true b c e = refl

@@ -158,8 +158,8 @@ inserted = inr (inr (refl, refl, inl (inr (no_faults_behind one (insert t (numbe
 pub inserted_so_far : StepSoFar (fresh one) 1 (add 1) (Rows []) (after_commit (fresh one) 1 (with_object one t (table (col a ∷ []) ((pos 1, i 1) ∷ []))))
 inserted_so_far = inl (refl, inl inserted)
 
--- CREATE TABLE x(a UNIQUE)
-pub unsupported_form : StepSoFar (fresh one) 1 (create_table x (column_with a [] (column.Unique ∷ []) ∷ [])) (Refused Unsupported) (fresh one)
+-- CREATE TABLE x(a INTEGER PRIMARY KEY)
+pub unsupported_form : StepSoFar (fresh one) 1 (create_table x (column_with a (codes "INTEGER" ∷ []) (column.PrimaryKey ∷ []) ∷ [])) (Refused Unsupported) (fresh one)
 unsupported_form = inr (refl, refl, inr (inr (refl, refl, inl refl)))
 
 -- g AFTER DELETE ON t WHEN OLD.a = 99: DELETE FROM nosuch. DELETE FROM t, where t has no row

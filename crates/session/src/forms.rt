@@ -4,15 +4,15 @@ ghost use Rattle.std.specs.Prelude.{◌≡◌};
 ghost use Rattle.db_pages.specs.Forms as object_forms;
 ghost use Rattle.executor.specs.Forms as supported_forms;
 
-use query_names::has_no_keys;
+use query_names::has_rowid_key;
 use sql_syntax::{NewObject, Statement};
 
-/// Whether it is a table without keys, or an index.
+/// Whether it is a table without a column that is another name of the rowid, or an index.
 fn is_object_supported(object: &NewObject) -> bool
     ensures { result ≡ object_forms.is_object_supported object.now }
 {
     match object {
-        NewObject::Table(table) => has_no_keys(table),
+        NewObject::Table(table) => !has_rowid_key(table),
         NewObject::Index(_) => true,
         _ => false,
     }

@@ -1,15 +1,13 @@
 -- What a page says is found on it.
-use Rattle.std.proofs.Common.{◌≡◌, ℕ, ℤ, zero, suc, ◌-◌, ◌<◌, pos, List, [], ◌∷◌, ◌++◌, length, take, slice_index_or, Option, Some, None, Result, Ok, Err, refl, sym, ap, subst, ◌∙◌, arith}
+use Rattle.std.proofs.Common.{◌≡◌, ℕ, ℤ, zero, suc, ◌-◌, ◌<◌, pos, List, [], ◌∷◌, ◌++◌, length, take, slice_index_or, Option, Some, None, refl, sym, ap, subst, ◌∙◌, arith}
 use Rattle.std.specs.Prelude.{option_map}
 use Rattle.std.proofs.lemmas.List.{take_at, length-append, length-map, get_or-map}
-use Rattle.std.specs.Option.{ok_or}
-use Rattle.sqlval.specs.declared.fault.Fault.{Fault}
 use Rattle.record.proofs.VarintLemmas.{some_is}
 use Rattle.tree_page.specs.declared.items.Kind.{Kind}
 use Rattle.tree_page.specs.declared.items.Kind.TheVariants.{TableLeaf, TableInterior, IndexLeaf, IndexInterior}
 use Rattle.tree_page.specs.Cells.{Pairwise, IsTreePage}
 use Rattle.tree_page.specs.Node.{Local, Node, Rows, Keys, Entries, Between, IsRowCell, IsKeyCell, IsEntryCell, IsBetweenCell, code_of, right_of, Say, IsNode}
-use Rattle.tree_page.specs.Reading.{Place, Answers, type_of, count_of, last_of, numbers_of}
+use Rattle.tree_page.specs.Reading.{Place, type_of, count_of, last_of, numbers_of}
 use Rattle.tree_page.specs.Bytes.{◌>>=◌, right_size, header_on, last_on, tail_on, leading_row, leading_key, leading_entry, leading_between, item_of, rest_of, after_cell, item_on, cell_on, number_on}
 use Rattle.tree_page.proofs.HeaderLemmas.{then_some, same_length, front_again, last_again, no_last, tail_again}
 use Rattle.tree_page.proofs.CellLemmas.{row_again, key_again, entry_again, between_again}
@@ -177,21 +175,20 @@ pub header_is : (page : Place) (bytes : List ℕ) (start : ℕ) (header : Kind �
     → header ≡ (kind_of node, count_of node)
 header_is page bytes start header node e sound is = some_is (sym sound ∙ node_front bytes start node (on_place page bytes start node e is))
 
--- what was found is answered
-answers : {X Y : Type 0} (view : X → Y) (r : Option X) (fault : Fault) (y : Y) → option_map view r ≡ Some y → Answers view (ok_or r fault) y
-answers view (Some x) fault y e = some_is e
-answers view None fault y e = absurd cc
-
--- a call answers what is found on the page that says this
-pub found_answers : {X Y : Type 0} (view : X → Y) (find : List ℕ → ℕ → Kind × ℕ → Option Y) (r : Option X) (result : Result X Fault) (fault : Fault) (page : Place) (bytes : List ℕ) (start : ℕ) (header : Kind × ℕ) (node : Node) (y : Y)
-    → at bytes start ≡ page → header_on bytes start ≡ Some header → option_map view r ≡ find bytes start header → result ≡ ok_or r fault → IsNode page.bytes page.start node
-    → find page.bytes page.start (kind_of node, count_of node) ≡ Some y → Answers view result y
-found_answers view find r result fault page bytes start header node y e sound is_found answered is there =
+-- what is found on the page that says this was found by the call
+pub found_there : {X Y : Type 0} (view : X → Y) (find : List ℕ → ℕ → Kind × ℕ → Option Y) (r : Option X) (page : Place) (bytes : List ℕ) (start : ℕ) (header : Kind × ℕ) (node : Node) (y : Y)
+    → at bytes start ≡ page → header_on bytes start ≡ Some header → option_map view r ≡ find bytes start header → IsNode page.bytes page.start node
+    → find page.bytes page.start (kind_of node, count_of node) ≡ Some y → option_map view r ≡ Some y
+found_there view find r page bytes start header node y e sound is_found is there =
     let same = header_is page bytes start header node e sound is in
     let here : find bytes start (kind_of node, count_of node) ≡ Some y = subst (λ (q : Place). find q.bytes q.start (kind_of node, count_of node) ≡ Some y) (sym e) there in
-    subst (λ (read : Result _ Fault). Answers view read y) (sym answered) (answers view r fault y (is_found ∙ (ap (find bytes start) same ∙ here)))
+    is_found ∙ (ap (find bytes start) same ∙ here)
 
--- an answer seen as it is
-pub answers_ok : {X : Type 0} (result : Result X Fault) (x : X) → Answers (λ y. y) result x → result ≡ Ok x
-answers_ok (Ok y) x e = ap (λ z. Ok z) e
-answers_ok (Err fault) x e = absurd e
+-- what was found is seen so
+pub seen : {X Y : Type 0} (view : X → Y) (r : Option X) (x : X) (y : Y) → r ≡ Some x → option_map view r ≡ Some y → view x ≡ y
+seen view r x y is e = some_is (sym (ap (option_map view) is) ∙ e)
+
+-- something was found
+pub unseen : {X Y : Type 0} (view : X → Y) (r : Option X) (y : Y) → r ≡ None → option_map view r ≡ Some y → ⊥
+unseen view (Some x) y none e = absurd cc
+unseen view None y none e = absurd cc

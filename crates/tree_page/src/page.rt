@@ -39,7 +39,9 @@ impl<'a> TreePage<'a> {
         ensures only { (node : Node) → IsNode bytes.now start node → IfErr result (λ fault. ⊥) }
         ensures refused { IfErr result (λ fault. fault ≡ Fault.Damaged Damage.Page 0) }
     {
-        let header = read_header(bytes, start).ok_or(Fault::Damaged(Damage::Page, 0))?;
+        let Some(header) = read_header(bytes, start) else {
+            return Err(Fault::Damaged(Damage::Page, 0));
+        };
         Ok(TreePage {
             bytes,
             start,
@@ -91,7 +93,10 @@ impl<'a> TreePage<'a> {
             → Answers (λ cell. cell.now) result (slice_index_or is.cells index []) }
         ensures refused { IfErr result (λ fault. fault ≡ Fault.Damaged Damage.Cell 0) }
     {
-        find_cell(self.bytes, self.start, self.header, index).ok_or(Fault::Damaged(Damage::Cell, 0))
+        match find_cell(self.bytes, self.start, self.header, index) {
+            Some(found) => Ok(found),
+            None => Err(Fault::Damaged(Damage::Cell, 0)),
+        }
     }
 
     /// A row of a table's leaf. (`Damaged(Cell, 0)` as for `cell`.)
@@ -101,7 +106,10 @@ impl<'a> TreePage<'a> {
             → index < length rows → Answers row_of result (slice_index_or rows index d) }
         ensures refused { IfErr result (λ fault. fault ≡ Fault.Damaged Damage.Cell 0) }
     {
-        find_row(self.bytes, self.start, self.header, index).ok_or(Fault::Damaged(Damage::Cell, 0))
+        match find_row(self.bytes, self.start, self.header, index) {
+            Some(found) => Ok(found),
+            None => Err(Fault::Damaged(Damage::Cell, 0)),
+        }
     }
 
     /// A child of a table's interior page, with its key. (`Damaged(Cell, 0)` as for `cell`.)
@@ -111,7 +119,10 @@ impl<'a> TreePage<'a> {
             → index < length kids → Answers key_of result (slice_index_or kids index d) }
         ensures refused { IfErr result (λ fault. fault ≡ Fault.Damaged Damage.Cell 0) }
     {
-        find_key(self.bytes, self.start, self.header, index).ok_or(Fault::Damaged(Damage::Cell, 0))
+        match find_key(self.bytes, self.start, self.header, index) {
+            Some(found) => Ok(found),
+            None => Err(Fault::Damaged(Damage::Cell, 0)),
+        }
     }
 
     /// An entry of an index's leaf. (`Damaged(Cell, 0)` as for `cell`.)
@@ -121,10 +132,10 @@ impl<'a> TreePage<'a> {
             → index < length entries → Answers local_of result (slice_index_or entries index d) }
         ensures refused { IfErr result (λ fault. fault ≡ Fault.Damaged Damage.Cell 0) }
     {
-        find_entry(self.bytes, self.start, self.header, index).ok_or(Fault::Damaged(
-            Damage::Cell,
-            0,
-        ))
+        match find_entry(self.bytes, self.start, self.header, index) {
+            Some(found) => Ok(found),
+            None => Err(Fault::Damaged(Damage::Cell, 0)),
+        }
     }
 
     /// A child of an index's interior page, with the entry after it. (`Damaged(Cell, 0)` as for `cell`.)
@@ -134,10 +145,10 @@ impl<'a> TreePage<'a> {
             → Answers between_of result (slice_index_or kids index d) }
         ensures refused { IfErr result (λ fault. fault ≡ Fault.Damaged Damage.Cell 0) }
     {
-        find_between(self.bytes, self.start, self.header, index).ok_or(Fault::Damaged(
-            Damage::Cell,
-            0,
-        ))
+        match find_between(self.bytes, self.start, self.header, index) {
+            Some(found) => Ok(found),
+            None => Err(Fault::Damaged(Damage::Cell, 0)),
+        }
     }
 
     /// The rowid of a row, or the key of a child, on a page of a table. (`Damaged(Cell, 0)` as for `cell`.)
@@ -145,10 +156,10 @@ impl<'a> TreePage<'a> {
         ensures only { IsNumberAt self.now index result }
         ensures refused { IfErr result (λ fault. fault ≡ Fault.Damaged Damage.Cell 0) }
     {
-        find_number(self.bytes, self.start, self.header, index).ok_or(Fault::Damaged(
-            Damage::Cell,
-            0,
-        ))
+        match find_number(self.bytes, self.start, self.header, index) {
+            Some(found) => Ok(found),
+            None => Err(Fault::Damaged(Damage::Cell, 0)),
+        }
     }
 
     /// The first place on a page of a table whose rowid, or key, isn't less; by halving. (`Damaged(Cell, 0)` as for `cell`.)

@@ -1,5 +1,5 @@
 -- A database that only has tables and indexes.
-use Rattle.std.proofs.Common.{◌≡◌, refl, sym, ap, subst, ◌∙◌, ℕ, zero, suc, ◌<◌, Bool, true, false, ◌&&◌, List, [], ◌∷◌, ◌++◌, Option, Some, None, Ok, Err, map, length, ℤ, pos, arith}
+use Rattle.std.proofs.Common.{◌≡◌, refl, sym, ap, subst, ◌∙◌, ℕ, zero, suc, ◌<◌, Bool, true, false, List, [], ◌∷◌, ◌++◌, Option, Some, None, Ok, Err, map, length, ℤ, pos, arith}
 use Rattle.std.specs.Prelude.{filter, flat_map, not, Contains}
 use Rattle.std.proofs.lemmas.Bool.{false≢true}
 use Rattle.sqlval.specs.Names.{folded}
@@ -30,14 +30,10 @@ use Rattle.trigger.specs.Effects.{change_with, given_rows, programs, run_resolve
 use Rattle.trigger.specs.Laws.{BindsAlone, DeleteTakesChosen, DeleteTakesRows, InsertAddsRows, InsertIsRefused, InsertOfNoneStays, SetsNothingOff}
 use Rattle.trigger.specs.Triggers.{Runner, fired}
 
-rest : (b c : Bool) → (not b && c) ≡ true → c ≡ true
-rest true c h = absurd (false≢true h)
-rest false c h = h
-
 no_triggers : (db : Database) (name : Name) → has_only_plain db ≡ true → triggers_of db name ≡ []
 no_triggers [] name h = refl
 no_triggers ((n, ATable t) ∷ db) name h = no_triggers db name h
-no_triggers ((n, AnIndex i) ∷ db) name h = no_triggers db name (rest i.is_automatic (has_only_plain db) h)
+no_triggers ((n, AnIndex i) ∷ db) name h = no_triggers db name h
 no_triggers ((n, AView v) ∷ db) name h = absurd (false≢true h)
 no_triggers ((n, ATrigger t) ∷ db) name h = absurd (false≢true h)
 

@@ -11,7 +11,7 @@ returns-in_err-table-clause-tells c = λ table index tells can.
 
 pub returns-clause-tells : goal.returns-clause-tells
 returns-clause-tells c = λ table index tells can.
-    index_adds table index tells.definition.table c.in_ok-table.table (tables_of c.args.catalog.now) _ can.sound.named can.fresh (c.in_ok-table.ensures.tells table index tells can) c.in_ok-catalog.ensures.replaced
+    index_adds table index c.in_ok-table.table (tables_of c.args.catalog.now) _ can.sound.named can.fresh (c.in_ok-table.ensures.tells table index tells can) c.in_ok-catalog.ensures.replaced
 
 pub returns-clause-found : goal.returns-clause-found
 returns-clause-found c = λ kind sound.

@@ -1,11 +1,12 @@
 use Rattle.std.proofs.lemmas.Int.{to_z-of_z}
-use Rattle.std.proofs.Common.{rules, SFits, w64, ◌≡◌, ◌∙◌, refl, sym, subst, inl, codes, Ok, Err, IsTrue, List, ◌∷◌}
+use Rattle.std.proofs.Common.{rules, SFits, w64, ◌≡◌, ◌∙◌, refl, sym, subst, inl, codes, Ok, Err, Some, IsTrue, List, ◌∷◌}
 use Rattle.sqlval.specs.declared.value.Value.{Value}
 use Rattle.catalog.specs.Listed.{tables_of}
 use Rattle.catalog.specs.declared.tables.Table.{Table}
 use Rattle.db_pages.specs.Schema.{schema_row}
+use Rattle.executor.specs.Holding.{ListsKeys}
 use Rattle.executor.specs.Listing.{AddsRow, IsNewTable}
-use Rattle.executor.proofs.Creations.{Laws, are_free, creates, handed_on, none_at, refused_definition, refused_row, schema_then, size_is, taken}
+use Rattle.executor.proofs.Creations.{Laws, are_free, creates, handed_on, lists_keys, none_at, refused_definition, refused_keys, refused_row, schema_then, size_is, turned_result}
 use Rattle.executor.proofs.creating.create_table.Goals as goal
 
 pub returns-in_err-table-clause-made : goal.returns-in_err-table-clause-made
@@ -50,7 +51,7 @@ returns-in_err-add_row-clause-made g c told plain text db held =
     let t : Table = record c.in_ok-table.table { root = root; rowid = rowid } in
     let made : IsNewTable tables d c.in_ok-table.table = c.in_ok-table.ensures.made in
     let is : IsNewTable tables d t =
-    record { makes = record { free = made.makes.free; once = made.makes.once; name_is = made.makes.name_is; columns = made.makes.columns; checks = made.makes.checks }; new = made.new; bare = made.bare } in
+    record { makes = record { free = made.makes.free; once = made.makes.once; name_is = made.makes.name_is; columns = made.makes.columns; checks = made.makes.checks; keys = made.makes.keys }; new = made.new; bare = made.bare } in
     let pages = g.P.Pages in
     let old = pages.map c.args.pages.now in
     let mid = pages.map c.new_tree.new.pages in
@@ -61,7 +62,7 @@ returns-in_err-add_row-clause-made g c told plain text db held =
     let fits : SFits w64 rowid = search rules in
     let none = none_at laws old size tables db held sql d rowid c.in_ok-rowid.ensures.free in
     let f = c.in_err-add_row.field-0.0 in
-    let adds : AddsRow mid new size rowid (schema_row (codes "table") d.name d.name root sql) (Err f) =
+    let adds : AddsRow mid new size rowid (schema_row (codes "table") d.name d.name root (Some sql)) (Err f) =
     subst (λ (vs : List Value). AddsRow mid new size rowid vs (Err f)) (c.deref.ensures.value ∙ c.in_ok-values.ensures.values)
     (subst (λ k. AddsRow mid new (pages.limits k).page rowid c.deref.result.now (Err f)) c.new_tree.ensures.kept
     (subst (λ z. AddsRow mid new (pages.limits (pages.below c.new_tree.new.pages)).page z c.deref.result.now (Err f)) (to_z-of_z w64 rowid fits) (c.in_err-add_row.ensures.added told_then))) in
@@ -85,7 +86,7 @@ returns-clause-made g c told plain text db held =
     let t : Table = record c.in_ok-table.table { root = root; rowid = rowid } in
     let made : IsNewTable tables d c.in_ok-table.table = c.in_ok-table.ensures.made in
     let is : IsNewTable tables d t =
-    record { makes = record { free = made.makes.free; once = made.makes.once; name_is = made.makes.name_is; columns = made.makes.columns; checks = made.makes.checks }; new = made.new; bare = made.bare } in
+    record { makes = record { free = made.makes.free; once = made.makes.once; name_is = made.makes.name_is; columns = made.makes.columns; checks = made.makes.checks; keys = made.makes.keys }; new = made.new; bare = made.bare } in
     let pages = g.P.Pages in
     let old = pages.map c.args.pages.now in
     let mid = pages.map c.new_tree.new.pages in
@@ -95,11 +96,16 @@ returns-clause-made g c told plain text db held =
     let told_then = subst (λ k. IsTrue (pages.tells k)) (sym c.new_tree.ensures.kept) told in
     let fits : SFits w64 rowid = search rules in
     let none = none_at laws old size tables db held sql d rowid c.in_ok-rowid.ensures.free in
-    let adds : AddsRow mid new size rowid (schema_row (codes "table") d.name d.name root sql) (Ok tt) =
+    let adds : AddsRow mid new size rowid (schema_row (codes "table") d.name d.name root (Some sql)) (Ok tt) =
     subst (λ (vs : List Value). AddsRow mid new size rowid vs (Ok tt)) (c.deref.ensures.value ∙ c.in_ok-values.ensures.values)
     (subst (λ k. AddsRow mid new (pages.limits k).page rowid c.deref.result.now (Ok tt)) c.new_tree.ensures.kept
     (subst (λ z. AddsRow mid new (pages.limits (pages.below c.new_tree.new.pages)).page z c.deref.result.now (Ok tt)) (to_z-of_z w64 rowid fits) (c.in_ok-add_row.ensures.added told_then))) in
     let added = adds held.schema held.schema_used tree.now_free (schema_then laws old size tables db held sql d t is mid root refl tree) none in
-    taken _ _ _ c.with.result c.with.ensures.added c.with.ensures.refused
-    (λ catalog listed. creates laws old size tables db held sql d t is mid root refl tree plain text new c.in_ok-rowid.ensures.free added (tables_of catalog)
-    (subst (λ z. tables_of catalog ≡ record t { rowid = z } ∷ tables) (to_z-of_z w64 rowid fits) listed) plain) (inl (inl (inl refl)))
+    let last = pages.map c.list_keys.new.pages in
+    let listed = tables_of c.in_ok-listed.listed in
+    let there : listed ≡ t ∷ tables = subst (λ z. listed ≡ record t { rowid = z } ∷ tables) (to_z-of_z w64 rowid fits) c.in_ok-listed.ensures.added in
+    let kept = c.add_row.ensures.kept ∙ c.new_tree.ensures.kept in
+    let lists = subst (λ k. ListsKeys new last (pages.limits k).page listed d.name c.list_keys.result) kept (c.list_keys.ensures.listed (subst (λ k. IsTrue (pages.tells k)) (sym kept) told)) in
+    turned_result c.list_keys.result
+    (lists_keys laws old size tables db held sql d t is mid root refl tree plain text new c.in_ok-rowid.ensures.free added tables_of last listed there c.list_keys.result lists)
+    (λ catalog. creates old size tables db held sql d plain t is last (tables_of catalog)) (refused_keys old size tables db held sql d plain t is last)

@@ -1,7 +1,7 @@
 use Rattle.std.proofs.Common.{◌∙◌, ap, sym, subst, inl, Ok, Err, IsTrue}
 use Rattle.catalog.specs.Listed.{tables_of, without_table}
 use Rattle.db_write.specs.Changing.{DropsTrees}
-use Rattle.executor.proofs.Creations.{handed_on}
+use Rattle.executor.proofs.Answering.{handed_on}
 use Rattle.executor.proofs.Droppings.{Laws, drops, no_table, not_given, rows_there, schema_stand}
 use Rattle.executor.proofs.dropping.drop_table.Goals as goal
 

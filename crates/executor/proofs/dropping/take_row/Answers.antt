@@ -1,7 +1,7 @@
 use Rattle.std.proofs.lemmas.Int.{to_z-of_z}
 use Rattle.std.proofs.Common.{rules, SFits, w64, subst, Ok, Err, true, false}
 use Rattle.tree_table.specs.Calls.{IsRemoved, RemovesRow}
-use Rattle.executor.proofs.Creations.{handed_on}
+use Rattle.executor.proofs.Answering.{handed_on}
 use Rattle.executor.proofs.dropping.take_row.Goals as goal
 
 pub returns-in_err-remove-clause-taken : goal.returns-in_err-remove-clause-taken

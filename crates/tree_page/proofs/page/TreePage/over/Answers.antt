@@ -11,6 +11,6 @@ there : (r : Option Header) (header : Kind × ℕ) → option_map header_parts r
 there (Some h) header e none = absurd cc
 there None header e none = absurd cc
 
-pub returns-in_err-header-clause-only : goal.returns-in_err-header-clause-only
-returns-in_err-header-clause-only c = λ node is.
-    absurd (there c.read_header.result _ (c.read_header.ensures ∙ node_front c.args.bytes.now c.args.start node is) c.in_err-header.ensures.ok_part)
+pub returns-in_default-clause-only : goal.returns-in_default-clause-only
+returns-in_default-clause-only c = λ node is.
+    absurd (there c.read_header.result _ (c.read_header.ensures ∙ node_front c.args.bytes.now c.args.start node is) c.in_default.is)

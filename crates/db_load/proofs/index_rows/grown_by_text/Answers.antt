@@ -4,16 +4,17 @@ use Rattle.sql_syntax.specs.declared.create.NewObject.TheVariants as new
 use Rattle.sql_syntax.specs.declared.statement.Statement.TheVariants as parsed
 use Rattle.catalog.specs.Listed.{tables_of}
 use Rattle.db_load.specs.Reading.{IsGrown}
-use Rattle.db_load.proofs.SchemaTables.{passed_on}
-use Rattle.db_load.proofs.index_rows.grown_by.Goals as goal
+use Rattle.db_load.proofs.SchemaTables.{passed_on, within_text}
+use Rattle.db_load.proofs.index_rows.grown_by_text.Goals as goal
 
 pub returns-in_err-statement-clause-tells : goal.returns-in_err-statement-clause-tells
 returns-in_err-statement-clause-tells c = λ table index tells can.
     (let made : Create = record { sql = tells.creates.0.sql; object = new.Index tells.definition } in
-    passed_on (IsGrown (tables_of c.args.catalog.now) tells.definition.table table index) c.from_residual.result c.in_err-statement.field-0.0 c.from_residual.ensures.1
-    (c.in_err-statement.ensures.tells (parsed.Create made) tells.creates.0.is tells.creates.0.within tells.creates.0.short))
+    passed_on (IsGrown (tables_of c.args.catalog.now) table index) c.from_residual.result c.in_err-statement.field-0.0 c.from_residual.ensures.1
+    (c.in_err-statement.ensures.tells (parsed.Create made) (within_text c.args.row.now tells.text (new.Index tells.definition) tells.text_is tells.creates.0)))
 
 pub returns-clause-tells : goal.returns-clause-tells
 returns-clause-tells c = λ table index tells can.
     (let made : Create = record { sql = tells.creates.0.sql; object = new.Index tells.definition } in
-    c.grown-table.ensures.tells table index tells made (c.in_ok-statement.ensures.tells (parsed.Create made) tells.creates.0.is tells.creates.0.within tells.creates.0.short) refl can)
+    c.grown-table.ensures.tells table index tells made
+    (c.in_ok-statement.ensures.tells (parsed.Create made) (within_text c.args.row.now tells.text (new.Index tells.definition) tells.text_is tells.creates.0)) refl can)
