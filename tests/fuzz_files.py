@@ -311,6 +311,21 @@ def deep(chance, base, usable):
     yield
 
 
+def keyed(chance, base, usable):
+    base.execute("CREATE TABLE t(a TEXT, id INTEGER PRIMARY KEY, b UNIQUE, c COLLATE NOCASE, UNIQUE (c, a))")
+    base.execute("CREATE TABLE u(k TEXT, v INT, id INTEGER, CHECK (id > 0), PRIMARY KEY (k, v))")
+    base.execute("CREATE TABLE w(n INTEGER, x, PRIMARY KEY (n))")
+    base.execute("CREATE INDEX i ON t(c, id)")
+    base.execute("CREATE UNIQUE INDEX j ON w(x, n)")
+    yield
+    for turn in range(60):
+        base.execute("INSERT INTO t VALUES (?, ?, ?, ?)", (words(chance, chance.choice([6, usable // 20])), chance.choice([None, -turn * 7, 1000 * turn + 1]), chance.choice([None, turn, f"b{turn}"]), f"{words(chance, 5)}{turn}"))
+        base.execute("INSERT INTO u VALUES (?, ?, ?)", (words(chance, 6), turn, turn + 1))
+        base.execute("INSERT INTO w VALUES (?, ?)", (chance.choice([None, -turn, (1 << 40) + turn]), chance.choice([turn, words(chance, 9)])))
+        if turn % 20 == 19:
+            yield
+
+
 def made(chance, fill, usable, kind):
     """A file of these rows, of which some are taken out again, and of a table that is dropped. With a log, what came last is there alone."""
     folder = tempfile.mkdtemp()
@@ -366,7 +381,7 @@ def fixed(image, kind):
 def bases(seed):
     """Each file before it is changed, with its name."""
     for usable in SIZES:
-        for fill in (rules, long, many, deep):
+        for fill in (rules, long, many, deep, keyed):
             for kind in (NO_LOG, LOG, chance_of(seed, usable, fill.__name__).choice([STALE_LOG, OPEN_LOG])):
                 yield f"{fill.__name__}, pages of {usable}, {kind}", made(chance_of(seed, usable, fill.__name__, kind), fill, usable, kind)
 
@@ -595,7 +610,9 @@ def schema_byte(chance, image):
 
 
 def texts(sql, another):
-    """What may stand in the place of a CREATE's text."""
+    """What may stand in the place of a CREATE's text, or of that which an automatic index doesn't have."""
+    if sql is None:
+        return [another, "", "CREATE UNIQUE INDEX sqlite_autoindex_t_1 ON t(b)"]
     return [another, None, sql[:-1], sql + " ", sql + ";", sql + " -- x", sql + " WITHOUT ROWID", sql + " STRICT", sql.upper()] + [sql.replace(old, new) for old, new in [
         ("TABLE", "table"), (")", ", z)"), ("COLLATE NOCASE", "COLLATE RTRIM"), ("COLLATE BINARY", ""), (" ON ", " on \n"), ("TEXT", "INTEGER"), ("INTEGER", ""),
         ("INTEGER", "INTEGER PRIMARY KEY"), ("UNIQUE ", ""), ("CREATE INDEX", "CREATE UNIQUE INDEX"), ("NULL", "NUL"), (", ", ", , "), ("INTEGER", "REAL"),
@@ -616,7 +633,7 @@ def schema_row(chance, image):
     rowid, kind, name, table, root, sql = chance.choice(rows)
     another = chance.choice(rows)
     column, now, news = chance.choice([
-        ("type", kind, ["table", "index", "view", "trigger", "tables", "TABLE", None]), ("name", name, [another[2], name.upper(), "x", "sqlite_x", ""]),
+        ("type", kind, ["table", "index", "view", "trigger", "tables", "TABLE", None]), ("name", name, [another[2], name.upper(), "x", "sqlite_x", "", "sqlite_autoindex_t_1"]),
         ("tbl_name", table, [another[3], table.upper(), "x"]), ("rootpage", root, [another[4], root + 1, 0, 1, -root, "2", image.count + 1, 1 << 32 | root]),
         *[("sql", sql, texts(sql, another[5]))] * 8, ("rowid", rowid, [rowid + 1000]),
     ])

@@ -101,6 +101,7 @@ fn copy_with(alloc: Global, table: &Table, indexes: Vec<Index>) -> R<Table>
     Ok(Table {
         name: table.name.copy(alloc)?,
         columns: columns_copy(alloc, table.columns.as_slice())?,
+        rowid_column: table.rowid_column,
         checks: table.checks.share()?,
         keys: keys_copy(alloc, table.keys.as_slice())?,
         indexes: Many::from_vec(indexes),

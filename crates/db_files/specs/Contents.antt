@@ -1,6 +1,6 @@
 -- What the trees of tables and indexes list (Database File Format, "Representation Of SQL Tables" and 2.5
 -- "Representation Of SQL Indices").
-use Rattle.std.specs.Prelude.{◌≡◌, ℕ, ℤ, List, [], ◌∷◌, ◌++◌, map, Option, Some, None, slice_index_or, slice_set}
+use Rattle.std.specs.Prelude.{◌≡◌, ℕ, ℤ, List, [], ◌∷◌, ◌++◌, map, Option, Some, None, slice_index_or}
 use Rattle.sqlval.specs.Lists.{sorted}
 use Rattle.sqlval.specs.declared.value.Value.{Value}
 use Rattle.sqlval.specs.declared.value.Value.TheVariants.{Null, Int}
@@ -12,21 +12,17 @@ use Rattle.tree_table.specs.Tree.{IsTableTree}
 use Rattle.tree_index.specs.Entries.{entry_cmp}
 use Rattle.tree_index.specs.Tree.{IsIndexTree}
 use Rattle.catalog.specs.Database.{Database, Object, ATable, AnIndex, AView, ATrigger, Table, Index, object}
+use Rattle.catalog.specs.Rows.{in_record}
 use Rattle.db_files.specs.Schema.{SchemaRow}
 
 -- a row of a table: its rowid and its values
 abbrev pub Row : Type 0
 Row = ℤ × List Value
 
--- the values as they are stored: NULL in the place of the column that is another name of the rowid
-abbrev pub stored : Option ℕ → List Value → List Value
-stored None values = values
-stored (Some place) values = slice_set values place Null
-
 -- an entry of the tree is this row
 pub record IsStoredRow (t : Table) (entry : Entry) (row : Row) : Type 0 where
   pub rowid : entry.rowid ≡ row.0
-  pub values : IsRecord entry.payload (stored t.rowid_column row.1)
+  pub values : IsRecord entry.payload (in_record t.rowid_column row.1)
 
 -- the tree of a table lists its rows
 pub record ListsRows (map : PageMap) (usable root : ℕ) (t : Table) (used : List ℕ) : Type 0 where

@@ -5,6 +5,7 @@ use Rattle.pages.specs.Map.{PageMap}
 use Rattle.freelist.specs.Calls.{KeepsHeader}
 use Rattle.tree_page.specs.Cells.{Pairwise}
 use Rattle.db_layout.specs.Layout.{AreShared, OfEntries, OfRows, Owner}
+use Rattle.catalog.specs.Listed.{shape_of}
 use Rattle.catalog.specs.declared.tables.Index.{Index}
 use Rattle.catalog.specs.declared.tables.Table.{Table}
 use Rattle.row_scan.specs.Rows.{IsRow, TableRow}
@@ -20,7 +21,7 @@ pub record IsRowsTree (table : Table) (rows : List TableRow) (owner : Owner) : T
   pub root_is : owner.root ≡ table.root
   pub entries : List Entry
   pub content_is : owner.content ≡ OfRows entries
-  pub each : Pairwise (IsRow (length table.columns)) entries rows
+  pub each : Pairwise (IsRow (shape_of table)) entries rows
 
 -- The tree of an index, under the index's root, with exactly the entries of the rows ("Representation Of SQL Indices").
 pub record IsEntriesTree (rows : List TableRow) (index : Index) (owner : Owner) : Type 0 where

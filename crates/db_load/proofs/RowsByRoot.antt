@@ -15,8 +15,9 @@ use Rattle.tree_table.specs.Tree as tree
 use Rattle.tree_table.specs.Tree.{IsTableTree, Tree, top}
 use Rattle.db_layout.specs.Layout.{HoldsUnder, IsTree, Owner, used_by}
 use Rattle.db_layout.specs.Trees.{AreTreesOf}
-use Rattle.catalog.specs.Listed.{as_column, with_rows}
-use Rattle.catalog.specs.Rows.{are_rows, is_row, is_value}
+use Rattle.catalog.specs.Listed.{as_column, own_column, shape_of, with_rows}
+use Rattle.catalog.specs.Rows.{are_rows, holds_rowid, is_row, is_value}
+use Rattle.catalog.specs.declared.tables.RowShape.{RowShape}
 use Rattle.catalog.specs.declared.tables.Table.{Table}
 use Rattle.row_scan.specs.Rows.{TableRow}
 use Rattle.row_scan.specs.Trees.{AreFitRows}
@@ -25,20 +26,22 @@ use Rattle.db_pages.specs.Stored.{AreHeld, all_trees}
 use Rattle.db_load.specs.Uses.{HasTrees, pages_held}
 use Rattle.db_load.proofs.TableChecks.{both_held}
 
--- ---- rows that one table may hold are such as any of so many columns may
+-- ---- rows that one table may hold are such as any whose rows have its shape may
 
 -- the rows are those of one table as of another
-same_fit : (t u : Table) (held rows : List TableRow) → length t.columns ≡ length u.columns → list_all (is_row (with_rows t held)) rows ≡ list_all (is_row (with_rows u held)) rows
+same_fit : (t u : Table) (held rows : List TableRow) → shape_of t ≡ shape_of u → list_all (is_row (with_rows t held)) rows ≡ list_all (is_row (with_rows u held)) rows
 same_fit t u held [] same = refl
 same_fit t u held (row ∷ rows) same = ap (λ (b : Bool). b && list_all (is_row (with_rows t held)) rows) one ∙ ap (λ (b : Bool). is_row (with_rows u held) row && b) (same_fit t u held rows same)
   where
     wide : length (with_rows t held).columns ≡ length (with_rows u held).columns
-    wide = length-map t.columns as_column ∙ (same ∙ sym (length-map u.columns as_column))
+    wide = length-map t.columns as_column ∙ (ap (λ (s : RowShape). s.width) same ∙ sym (length-map u.columns as_column))
 
     one : is_row (with_rows t held) row ≡ is_row (with_rows u held) row
-    one = ap (λ (n : ℕ). is_word row.0 && length row.1 == n && list_all is_value row.1 && true) wide
+    one =
+        ap (λ (n : ℕ). is_word row.0 && length row.1 == n && list_all is_value row.1 && holds_rowid (own_column t) row) wide
+        ∙ ap (λ (s : RowShape). is_word row.0 && length row.1 == length (with_rows u held).columns && list_all is_value row.1 && holds_rowid s.own row) same
 
-pub fit_for_all : (t : Table) (rows : List TableRow) → are_rows (with_rows t rows) ≡ true → AreFitRows (length t.columns) rows
+pub fit_for_all : (t : Table) (rows : List TableRow) → are_rows (with_rows t rows) ≡ true → AreFitRows (shape_of t) rows
 fit_for_all t rows fit u same = sym (ap (λ (b : Bool). is_rising int_cmp (map (λ r. r.0) rows) && b) (same_fit t u rows rows same)) ∙ fit
 
 -- ---- where a table's tree begins

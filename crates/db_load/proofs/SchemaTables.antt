@@ -25,16 +25,16 @@ use Rattle.sql_syntax.specs.declared.statement.Statement.TheVariants as statemen
 use Rattle.sql_grammar.specs.Statements.{is_statement_within}
 use Rattle.sql_grammar.specs.Texts.{IsStatementText}
 use Rattle.catalog.specs.Database.{Name, TableColumn}
-use Rattle.catalog.specs.Listed.{is_name_of, key_columns, tables_of}
+use Rattle.catalog.specs.Listed.{is_name_of, tables_of}
 use Rattle.catalog.specs.declared.tables.Catalog.{Catalog}
 use Rattle.catalog.specs.declared.tables.Column.{Column}
-use Rattle.catalog.specs.declared.tables.IndexColumn.{IndexColumn}
 use Rattle.catalog.specs.declared.tables.Table.{Table}
 use Rattle.query_terms.specs.Terms.{Term}
 use Rattle.query_names.specs.Bound.{IsFaultOf, is_twice_named}
 use Rattle.query_names.specs.Checked.{Checked, faults, good, known_all, meant}
-use Rattle.query_names.specs.Creating.{checks_known, defined, described, has_doubled, has_rowid_key, table_keys_known}
+use Rattle.query_names.specs.Creating.{as_keys, checks_known, defined, described, has_doubled, table_keys_known}
 use Rattle.query_names.specs.Tables.{column_of}
+use Rattle.query_names.specs.declared.keys.BoundKeys.{BoundKeys}
 use Rattle.query_names.proofs.CreatedTables.{known_columns, named_columns}
 use Rattle.db_pages.specs.Schema.{HasRowOf, IndexTold, IsCreateOf, TableTold, Tells, Told, schema_row}
 use Rattle.db_load.specs.Loading.{AreRowValues, HasParts, IsOfRow, IsTextOf, TellsTable, bare, kind_text, text_of}
@@ -42,7 +42,7 @@ use Rattle.db_load.specs.Reading.{AddsTold, AreSound, FindsParts, FindsRow, Find
 use Rattle.db_load.specs.declared.schema.SchemaRow.{SchemaRow}
 use Rattle.db_load.proofs.KeyColumns.{keys_are}
 use Rattle.db_load.proofs.ToldAdded.{table_adds}
-use Rattle.db_load.proofs.ToldParts.{is_folded, is_named, is_not}
+use Rattle.db_load.proofs.ToldParts.{is_folded, is_named}
 
 -- ---- refusals
 
@@ -104,8 +104,16 @@ checks_refused {A} k ts f (inr among) is = none_among (refusal_of f) (subst (λ 
 pub checks_are : (k : Checked (List Term)) (found ts : List Term) → k ≡ good found → k ≡ good ts → found ≡ ts
 checks_are k found ts one other = ap (meant {A = List Term}) (sym one ∙ other)
 
-pub keys_found : (k : Checked (List (List (ℕ × Collation)))) (found ts : List (List IndexColumn)) → k ≡ good (map key_columns found) → k ≡ good (map key_columns ts) → found ≡ ts
-keys_found k found ts one other = keys_are found ts (ap (meant {A = List (List (ℕ × Collation))}) (sym one ∙ other))
+-- what the keys of a definition ask for
+abbrev Asked : Type 0
+Asked = Option ℕ × List (List (ℕ × Collation))
+
+pub keys_found : (k : Checked Asked) (found ts : BoundKeys) → k ≡ good (as_keys found) → k ≡ good (as_keys ts) → found ≡ ts
+keys_found k found ts one other =
+    let asked : as_keys found ≡ as_keys ts = ap (meant {A = Asked}) (sym one ∙ other) in
+    let own : found.rowid_column ≡ ts.rowid_column = ap (λ (a : Asked). a.0) asked in
+    let indexes : found.indexes ≡ ts.indexes = keys_are found.indexes ts.indexes (ap (λ (a : Asked). a.1) asked) in
+    λ i. record { rowid_column = own i; indexes = indexes i }
 
 -- the columns of a definition that names none twice have different names
 pub columns_differ : (ds : List ColumnDefinition) (columns : List Column) → has_doubled ds ≡ false → map described columns ≡ map defined ds → is_twice_named columns ≡ false
@@ -153,20 +161,25 @@ module _ (table : Table) (row : SchemaRow) (tells : TellsTable table row) where
   checks_premise d columns same are = ap (λ (x : TableDefinition). checks_known x columns) same ∙ ap (checks_known tells.definition) are ∙ tells.makes.checks
 
   -- and keys
+  abbrev pub keys_of : BoundKeys
+  keys_of = record { rowid_column = table.rowid_column; indexes = table.keys }
+
   pub keys_premise : (d : TableDefinition) (columns : List Column) → d ≡ tells.definition → columns ≡ table.columns
-      → (is_twice_named columns ≡ false) × (table_keys_known d columns ≡ good (map key_columns table.keys))
+      → (is_twice_named columns ≡ false) × (table_keys_known d columns ≡ good (as_keys keys_of))
   keys_premise d columns same are = (
     subst (λ (cs : List Column). is_twice_named cs ≡ false) (sym are) (columns_differ tells.definition.columns table.columns tells.makes.once tells.makes.columns),
     ap (λ (x : TableDefinition). table_keys_known x columns) same ∙ ap (table_keys_known tells.definition) are ∙ tells.makes.keys,
   )
 
   -- a table with the parts of the row
-  pub table_is : (d : TableDefinition) (found : Table) → d ≡ tells.definition → found.name ≡ d.name → found.columns ≡ table.columns → found.checks ≡ table.checks → found.keys ≡ table.keys → found.indexes ≡ [] → found.root ≡ row.root → found.rowid ≡ row.rowid → found ≡ bare table
-  table_is d found same name columns checks keys none root rowid =
+  pub table_is : (d : TableDefinition) (found : Table) (keys : BoundKeys) → d ≡ tells.definition → found.name ≡ d.name → found.columns ≡ table.columns → found.checks ≡ table.checks → keys ≡ keys_of → found.rowid_column ≡ keys.rowid_column → found.keys ≡ keys.indexes → found.indexes ≡ [] → found.root ≡ row.root → found.rowid ≡ row.rowid → found ≡ bare table
+  table_is d found keys same name columns checks asked own_is keys_is none root rowid =
       let n : found.name ≡ table.name = name ∙ (ap (λ (x : TableDefinition). x.name) same ∙ sym tells.makes.name_is) in
       let r : found.root ≡ table.root = root ∙ sym tells.root_is in
       let id : found.rowid ≡ table.rowid = rowid ∙ sym tells.rowid_is in
-      λ i. record { name = n i; columns = columns i; checks = checks i; keys = keys i; indexes = none i; root = r i; rowid = id i }
+      let own : found.rowid_column ≡ table.rowid_column = own_is ∙ ap (λ (k : BoundKeys). k.rowid_column) asked in
+      let ks : found.keys ≡ table.keys = keys_is ∙ ap (λ (k : BoundKeys). k.indexes) asked in
+      λ i. record { name = n i; columns = columns i; rowid_column = own i; checks = checks i; keys = ks i; indexes = none i; root = r i; rowid = id i }
 
 -- the table of a row is listed after the others
 pub table_listed : {Y : Type 0} (t found : Table) (old new : Catalog) (result : Result Y Fault) → found ≡ bare t → is_name_of (tables_of old) t.name ≡ false
@@ -224,7 +237,6 @@ said size (TableTold t) entry is = record {
       definition = is.definition;
       creates = is.creates;
       names = record {
-        supported_forms = is_not (has_rowid_key is.definition) is.creates.1;
         name_is = is_named is.definition.name row.name.now (ap folded parts.name_is ∙ is.row_is.name_is);
         table_name_is = is_named is.definition.name row.table_name.now (ap folded parts.table_name_is ∙ is.row_is.table_name_is);
         free = is.makes.free;

@@ -18,9 +18,10 @@ use Rattle.db_layout.specs.Layout.{HoldsUnder, IsTree, OfEntries, OfRows, Owner,
 use Rattle.db_layout.specs.Trees.{IsEntriesTree, columns_of}
 use Rattle.index_entries.specs.Entries.{collations, entries_of_rows}
 use Rattle.index_entries.specs.Keeping.{columns_in}
-use Rattle.catalog.specs.Listed.{shared}
+use Rattle.catalog.specs.Listed.{shape_of, shared}
 use Rattle.catalog.specs.declared.tables.Index.{Index}
 use Rattle.catalog.specs.declared.tables.IndexColumn.{IndexColumn}
+use Rattle.catalog.specs.declared.tables.RowShape.{RowShape}
 use Rattle.catalog.specs.declared.tables.Table.{Table}
 use Rattle.query_names.specs.declared.queries.BoundSource.{BoundSource}
 use Rattle.row_scan.specs.Rows.{TableRow}
@@ -71,18 +72,18 @@ index_refused pages size rows index columns old new fault result same only is =
       apart = free;
     }))
 
-source_rows : (pages : PageMap) (size root width : ℕ) (source : BoundSource) (rows : List TableRow) → source.root ≡ root → source.width ≡ width → HasRows pages size root width rows
-    → HasRows pages size source.root source.width rows
-source_rows pages size root width source rows at wide has =
-    subst (λ (n : ℕ). HasRows pages size source.root n rows) (sym wide) (subst (λ (n : ℕ). HasRows pages size n width rows) (sym at) has)
+source_rows : (pages : PageMap) (size root : ℕ) (shape : RowShape) (source : BoundSource) (rows : List TableRow) → source.root ≡ root → source.shape ≡ shape → HasRows pages size root shape rows
+    → HasRows pages size source.root source.shape rows
+source_rows pages size root shape source rows at formed has =
+    subst (λ (s : RowShape). HasRows pages size source.root s rows) (sym formed) (subst (λ (n : ℕ). HasRows pages size n shape rows) (sym at) has)
 
 -- its entries are checked
-pub entries_checked : (pages : PageMap) (size root width : ℕ) (source : BoundSource) (rows : List TableRow) (index : Index) (columns : List Collation) (old new : List Bool) (result : Result ⊤ Fault)
-    → AreWhole size pages → columns ≡ orders_of index → source.root ≡ root → source.width ≡ width → IsCheckedIndex pages size index.root columns old new → MarksIndex pages size index.root columns old new
-    → ChecksEntries pages size index.root source index.columns result → HasRows pages size root width rows → Checks (HasEntries pages size rows index) its_pages old new result
-entries_checked pages size root width source rows index columns old new (Ok done) whole same at wide checked marks checks has =
+pub entries_checked : (pages : PageMap) (size root : ℕ) (shape : RowShape) (source : BoundSource) (rows : List TableRow) (index : Index) (columns : List Collation) (old new : List Bool) (result : Result ⊤ Fault)
+    → AreWhole size pages → columns ≡ orders_of index → source.root ≡ root → source.shape ≡ shape → IsCheckedIndex pages size index.root columns old new → MarksIndex pages size index.root columns old new
+    → ChecksEntries pages size index.root source index.columns result → HasRows pages size root shape rows → Checks (HasEntries pages size rows index) its_pages old new result
+entries_checked pages size root shape source rows index columns old new (Ok done) whole same at formed checked marks checks has =
     let tree = subst (λ (cs : List Collation). IsIndexTree pages size index.root cs checked.entries checked.used) same checked.tree in
-    let there = checks checked.entries checked.used rows whole tree (source_rows pages size root width source rows at wide has) in (
+    let there = checks checked.entries checked.used rows whole tree (source_rows pages size root shape source rows at formed has) in (
       record {
         it = record { root = index.root; content = OfEntries (collations (columns_of index)) (entries_of_rows (columns_of index) rows); used = checked.used };
         is = record {
@@ -96,8 +97,8 @@ entries_checked pages size root width source rows index columns old new (Ok done
           marks (entries_of_rows (columns_of index) rows) owner.used
           (subst (λ (cs : List Collation). IsIndexTree pages size index.root cs (entries_of_rows (columns_of index) rows) owner.used) (sym same) (tree_of pages size rows index owner it)) free,
     )
-entries_checked pages size root width source rows index columns old new (Err fault) whole same at wide checked marks checks has = λ owner it free.
-    (by_case (checks (entries_of_rows (columns_of index) rows) owner.used rows whole (tree_of pages size rows index owner it) (source_rows pages size root width source rows at wide has)))
+entries_checked pages size root shape source rows index columns old new (Err fault) whole same at formed checked marks checks has = λ owner it free.
+    (by_case (checks (entries_of_rows (columns_of index) rows) owner.used rows whole (tree_of pages size rows index owner it) (source_rows pages size root shape source rows at formed has)))
   where
     by_case : {A : Type 0} {B : Type 0} → A ⊎ B × (entries_of_rows (columns_of index) rows ≡ entries_of_rows (columns_of index) rows → ⊥) → A
     by_case (inl why) = why
@@ -151,11 +152,11 @@ record HasParts (pages : PageMap) (size : ℕ) (t : Table) (trees : List Owner) 
   others : List Owner
   rows : List TableRow
   trees_are : trees ≡ owner ∷ others
-  has : HasRows pages size t.root (length t.columns) rows
+  has : HasRows pages size t.root (shape_of t) rows
   entries : List Entry
   tree : IsTableTree pages size t.root entries owner.used
   each : Pairwise (HasEntries pages size rows) t.indexes others
-  fit : AreFitRows (length t.columns) rows
+  fit : AreFitRows (shape_of t) rows
 
 both_of : (pages : PageMap) (size : ℕ) (rows : List TableRow) (is : List Index) (owners : List Owner) → Pairwise (IsEntriesTree rows) is owners → AllByRecursion (IsTree pages size) owners
     → Pairwise (HasEntries pages size rows) is owners
@@ -205,7 +206,7 @@ tree_refused pages size t old new fault result only is =
     only (record { rows = p.entries; used = p.owner.used; tree = p.tree; apart = unmarked_first old (used_by trees) p.owner.used (used_by p.others) (parted p.owner p.others trees p.trees_are) free })))
 
 -- its rows are refused
-pub rows_refused : (pages : PageMap) (size : ℕ) (t : Table) (old new : List Bool) (fault : Fault) (result : Result ⊤ Fault) → AreWhole size pages → PassesFit pages size t.root (length t.columns) (Err fault)
+pub rows_refused : (pages : PageMap) (size : ℕ) (t : Table) (old new : List Bool) (fault : Fault) (result : Result ⊤ Fault) → AreWhole size pages → PassesFit pages size t.root (shape_of t) (Err fault)
     → IsErrAnd result (λ e. e ≡ fault) → Checks (HasTrees pages size t) used_by old new result
 rows_refused pages size t old new fault result whole passes is =
     refused (HasTrees pages size t) used_by old new fault result is
@@ -213,12 +214,12 @@ rows_refused pages size t old new fault result whole passes is =
 
 -- its indexes are checked
 pub indexes_checked : (pages : PageMap) (size : ℕ) (t : Table) (old mid new : List Bool) (result : Result ⊤ Fault) → AreWhole size pages → IsChecked pages size t.root old mid → MarksTree pages size t.root old mid
-    → FindsFit pages size t.root (length t.columns) (Ok tt)
-    → ((rows : List TableRow) → HasRows pages size t.root (length t.columns) rows → Checks (Pairwise (HasEntries pages size rows) t.indexes) used_by mid new result)
+    → FindsFit pages size t.root (shape_of t) (Ok tt)
+    → ((rows : List TableRow) → HasRows pages size t.root (shape_of t) rows → Checks (Pairwise (HasEntries pages size rows) t.indexes) used_by mid new result)
     → Checks (HasTrees pages size t) used_by old new result
 indexes_checked pages size t old mid new (Ok done) whole checked same finds check =
     let fit = finds checked.rows checked.used whole checked.tree in
-    let has : HasRows pages size t.root (length t.columns) fit.rows = record { entries = checked.rows; used = checked.used; tree = checked.tree; each = fit.each } in
+    let has : HasRows pages size t.root (shape_of t) fit.rows = record { entries = checked.rows; used = checked.used; tree = checked.tree; each = fit.each } in
     let first : Owner = record { root = t.root; content = OfRows checked.rows; used = checked.used } in
     let others = (check fit.rows has).0 in (
       record {

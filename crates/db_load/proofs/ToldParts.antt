@@ -151,7 +151,7 @@ bare_apart items apart = ap (any_twice is_same_name) (bare_names items) ∙ apar
 pub apart_bare : (items : List Told) → AreApart (map bare_told items) → AreApart items
 apart_bare items apart = sym (ap (any_twice is_same_name) (bare_names items)) ∙ apart
 
-pub is_not : (b : Bool) → not b ≡ true → b ≡ false
+is_not : (b : Bool) → not b ≡ true → b ≡ false
 is_not true h = absurd (false≢true h)
 is_not false h = refl
 

@@ -17,7 +17,6 @@ use Rattle.catalog.specs.Listed.{is_reserved, tables_of}
 use Rattle.catalog.specs.declared.tables.Catalog.{Catalog}
 use Rattle.catalog.specs.declared.tables.Index.{Index}
 use Rattle.catalog.specs.declared.tables.Table.{Table}
-use Rattle.query_names.specs.Creating.{has_rowid_key}
 use Rattle.db_pages.specs.Schema.{CreatesSupported, IsIndexOf, IsTableOf, schema_row}
 use Rattle.db_pages.specs.Stored.{IsCounted, Stores}
 use Rattle.db_load.specs.declared.schema.SchemaRow.{SchemaRow}
@@ -72,9 +71,8 @@ pub record IsTextOf (row : SchemaRow) (statement : Statement) : Type 0 where
 abbrev pub bare : Table → Table
 bare table = record table { indexes = [] }
 
--- The definition is supported, and its name isn't reserved. The row has that name twice.
+-- The definition's name isn't reserved. The row has that name twice.
 pub record IsOfRow (row : SchemaRow) (definition : TableDefinition) : Type 0 where
-  pub supported_forms : has_rowid_key definition ≡ false
   pub name_is : is_same_name definition.name row.name.now ≡ true
   pub table_name_is : is_same_name definition.name row.table_name.now ≡ true
   pub free : is_reserved definition.name ≡ false

@@ -13,7 +13,7 @@ use Rattle.tree_page.specs.Cells.{Pairwise}
 use Rattle.tree_table.specs.Tree.{IsTableTree}
 use Rattle.db_layout.specs.Layout.{IsTree, Owner, used_by}
 use Rattle.db_layout.specs.Trees.{AreTreesOf, IsEntriesTree}
-use Rattle.catalog.specs.Listed.{are_named_once, tables_of}
+use Rattle.catalog.specs.Listed.{are_named_once, shape_of, tables_of}
 use Rattle.catalog.specs.declared.tables.Catalog.{Catalog}
 use Rattle.catalog.specs.declared.tables.Index.{Index}
 use Rattle.catalog.specs.declared.tables.Table.{Table}
@@ -40,7 +40,7 @@ pub record HasTrees (map : PageMap) (size : ℕ) (table : Table) (trees : List O
   pub rows : List TableRow
   pub are : AreTreesOf table rows trees
   pub lie : AllByRecursion (IsTree map size) trees
-  pub fit : AreFitRows (length table.columns) rows
+  pub fit : AreFitRows (shape_of table) rows
 
 -- the pages that the trees of tables use
 abbrev pub pages_held : List (List Owner) → List ℕ

@@ -8,11 +8,11 @@ ghost use Rattle.sql_syntax.specs.declared.statement.Statement.{Statement as Par
 ghost use Rattle.sql_syntax.specs.declared.statement.Statement.TheVariants as parsed;
 ghost use Rattle.sql_syntax.specs.declared.create.Create.{Create as Made};
 ghost use Rattle.sqlval.specs.Faults.{IsOrMemory};
-ghost use Rattle.catalog.specs.Listed.{is_name_of, key_columns, tables_of};
+ghost use Rattle.catalog.specs.Listed.{is_name_of, tables_of};
 ghost use Rattle.query_terms.specs.Terms.{Term};
 ghost use Rattle.query_names.specs.Bound.{is_twice_named};
 ghost use Rattle.query_names.specs.Checked.{good};
-ghost use Rattle.query_names.specs.Creating.{checks_known, defined, described, has_doubled, table_keys_known};
+ghost use Rattle.query_names.specs.Creating.{as_keys, checks_known, defined, described, has_doubled, table_keys_known};
 ghost use Rattle.db_files.specs.Schema.{sql_value};
 ghost use Rattle.db_pages.specs.Schema.{schema_row};
 ghost use Rattle.db_pages.specs.Schema as told;
@@ -20,8 +20,8 @@ ghost use Rattle.db_load.specs.Loading as loading;
 ghost use Rattle.db_load.specs.Loading.{AreRowValues, HasParts, IsOfRow, IsSchemaFault, IsTextOf, TellsTable, bare, kind_text};
 ghost use Rattle.db_load.specs.Reading.{AreSound, FindsParts, ReadsTold};
 
-use catalog::{Catalog, Checks, Column, IndexColumn, Table, is_reserved};
-use query_names::{bind_checks, bind_columns, bind_keys, has_rowid_key};
+use catalog::{Catalog, Checks, Column, Table, is_reserved};
+use query_names::{BoundKeys, bind_checks, bind_columns, bind_keys};
 use record::Record;
 use sql_parser::{parse, release};
 use sql_syntax::{Create, NewObject, Statement, TableDefinition};
@@ -233,17 +233,13 @@ fn checks_in(alloc: Global, definition: &TableDefinition, columns: &[Column]) ->
     }
 }
 
-/// The columns of the indexes that a definition's keys ask for, over these columns.
-fn keys_in(
-    alloc: Global,
-    definition: &TableDefinition,
-    columns: &[Column],
-) -> R<Many<Many<IndexColumn>>>
-    ensures tells { (keys : List (List IndexColumn)) → is_twice_named columns.now ≡ false
-        → table_keys_known definition.now columns.now ≡ good (map key_columns keys)
+/// What a definition's keys ask for, over these columns.
+fn keys_in(alloc: Global, definition: &TableDefinition, columns: &[Column]) -> R<BoundKeys>
+    ensures tells { (keys : BoundKeys) → is_twice_named columns.now ≡ false
+        → table_keys_known definition.now columns.now ≡ good (as_keys keys)
         → IsOrMemory (λ found. found ≡ keys) result }
     ensures found { is_twice_named columns.now ≡ false
-        → IfOk result (λ keys. table_keys_known definition.now columns.now ≡ good (map key_columns keys)) }
+        → IfOk result (λ keys. table_keys_known definition.now columns.now ≡ good (as_keys keys)) }
     ensures not_disk { IfErr result (λ fault. IsSchemaFault fault) }
 {
     match bind_keys(alloc, definition, columns) {
@@ -252,15 +248,12 @@ fn keys_in(
     }
 }
 
-/// Checks that the definition is supported and has the row's names, and that they may be given.
+/// Checks that the definition has the row's names, and that they may be given.
 fn is_of_row(definition: &TableDefinition, row: &SchemaRow<'_>) -> R<()>
     ensures tells { IsOfRow row.now definition.now → result ≡ Ok tt }
     ensures found { OnOk result (IsOfRow row.now definition.now) }
     ensures not_disk { IfErr result (λ fault. IsSchemaFault fault) }
 {
-    if has_rowid_key(definition) {
-        return Err(Fault::Unsupported(Feature::StatementForm));
-    }
     if !definition.name.is_same(row.name) {
         return Err(damaged());
     }
@@ -291,8 +284,9 @@ fn table_made(alloc: Global, row: &SchemaRow<'_>, statement: &Statement) -> R<Ta
     Ok(Table {
         name,
         columns,
+        rowid_column: keys.rowid_column,
         checks,
-        keys,
+        keys: keys.indexes,
         indexes: Many::new(alloc),
         root: row.root,
         rowid: row.rowid,

@@ -5,7 +5,7 @@ ghost use Rattle.pages.specs.Calls.{Stays};
 ghost use Rattle.pages.specs.Map.{PageMap};
 ghost use Rattle.tree_page.specs.Cells.{Pairwise};
 ghost use Rattle.db_layout.specs.Layout.{used_by};
-ghost use Rattle.catalog.specs.Listed.{shared};
+ghost use Rattle.catalog.specs.Listed.{shape_of, shared};
 ghost use Rattle.row_scan.specs.Rows.{TableRow};
 ghost use Rattle.row_scan.specs.Trees.{HasRows};
 ghost use Rattle.tree_check.specs.Checks.{CanMark};
@@ -26,11 +26,11 @@ use tree_check::{check_index_tree, check_tree};
 /// A table, as a source of rows.
 fn source_of(table: &Table) -> BoundSource
     ensures root { result.root ≡ table.now.root }
-    ensures width { result.width ≡ length table.now.columns }
+    ensures shape { result.shape ≡ shape_of table.now }
 {
     BoundSource {
         root: table.root,
-        width: table.columns.len(),
+        shape: table.shape(),
     }
 }
 
@@ -46,7 +46,7 @@ fn check_index<P: Pages>(
     ensures checked { (map : PageMap) (size : ℕ)
         → AreTold P.Pages.below P.Pages.tells P.Pages.limits P.Pages.map pages.old map size
         → CanMark map size marks.old.items
-        → (rows : List TableRow) → HasRows map size table.now.root (length table.now.columns) rows
+        → (rows : List TableRow) → HasRows map size table.now.root (shape_of table.now) rows
         → Checks (HasEntries map size rows index.now)
         (λ owner. owner.used) marks.old.items marks.new.items result }
     ensures long { length marks.new.items ≡ length marks.old.items }
@@ -69,7 +69,7 @@ fn check_indexes<P: Pages>(
     ensures checked { (map : PageMap) (size : ℕ)
         → AreTold P.Pages.below P.Pages.tells P.Pages.limits P.Pages.map pages.old map size
         → CanMark map size marks.old.items
-        → (rows : List TableRow) → HasRows map size table.now.root (length table.now.columns) rows
+        → (rows : List TableRow) → HasRows map size table.now.root (shape_of table.now) rows
         → Checks (Pairwise (HasEntries map size rows) indexes.now) used_by marks.old.items
         marks.new.items result }
     ensures long { length marks.new.items ≡ length marks.old.items }

@@ -21,9 +21,10 @@ use Rattle.sql_syntax.specs.declared.statement.Statement.TheVariants as statemen
 use Rattle.sql_grammar.specs.Texts.{IsStatementText}
 use Rattle.catalog.specs.Database as database
 use Rattle.catalog.specs.Database.{ATable, AnIndex, Database, Name, TableColumn, name_order, object}
-use Rattle.catalog.specs.Listed.{as_column, as_index, named_among, with_rows}
+use Rattle.catalog.specs.Listed.{as_column, as_index, key_columns, named_among, own_column, place_within, shape_of, with_rows}
 use Rattle.catalog.specs.declared.tables.Column.{Column}
 use Rattle.catalog.specs.declared.tables.Index.{Index}
+use Rattle.catalog.specs.declared.tables.RowShape.{RowShape}
 use Rattle.catalog.specs.declared.tables.Table.{Table}
 use Rattle.catalog.proofs.NamedDatabases.{one_database}
 use Rattle.query_names.specs.Checked.{Checked, meant}
@@ -106,8 +107,8 @@ columns_are (u ∷ us) (t ∷ ts) h =
     let rest = columns_are us ts (rest_of (described u) (described t) (map described us) (map described ts) h) in
     λ i. first i ∷ rest i
 
-abbrev table_with : List Column → List Term → List TableRow → database.Table
-table_with cs checks rows = record { columns = map as_column cs; rowid_column = None; checks = checks; rows = rows }
+abbrev table_with : List Column → Option ℕ → List Term → List TableRow → database.Table
+table_with cs own checks rows = record { columns = map as_column cs; rowid_column = own; checks = checks; rows = rows }
 
 module _ (trees : OneTree) (texts : OneText) (values : DetermineValues) where
   -- one text makes one object
@@ -150,26 +151,36 @@ module _ (trees : OneTree) (texts : OneText) (values : DetermineValues) where
           ∙ (ap (λ (d : TableDefinition). checks_known d t.columns) one_definition ∙ ap (checks_known second.definition) one_columns)
           ∙ second.makes.checks)
 
-      -- their keys ask for the same indexes
-      one_due : due_objects t ≡ due_objects u
-      one_due = ap₂ (λ (n : Name) (keys : List (List (ℕ × Collation))). automatic n 1 keys) one_name (ap meant (sym first.makes.keys
+      -- their keys ask for the same
+      one_asked : ◌≡◌ {A = Option ℕ × List (List (ℕ × Collation))} (t.rowid_column, map key_columns t.keys) (u.rowid_column, map key_columns u.keys)
+      one_asked = ap meant (sym first.makes.keys
           ∙ (ap (λ (d : TableDefinition). table_keys_known d t.columns) one_definition ∙ ap (table_keys_known second.definition) one_columns)
-          ∙ second.makes.keys))
+          ∙ second.makes.keys)
+
+      one_own : own_column t ≡ own_column u
+      one_own = ap₂ (λ (cs : List Column) (own : Option ℕ). place_within (length cs) own) one_columns (ap (λ (asked : Option ℕ × List (List (ℕ × Collation))). asked.0) one_asked)
+
+      one_due : due_objects t ≡ due_objects u
+      one_due = ap₂ (λ (n : Name) (keys : List (List (ℕ × Collation))). automatic n 1 keys) one_name (ap (λ (asked : Option ℕ × List (List (ℕ × Collation))). asked.1) one_asked)
+
+      -- and their rows have one shape
+      one_shape : shape_of t ≡ shape_of u
+      one_shape = ap₂ (λ (cs : List Column) (own : Option ℕ). (let s : RowShape = record { width = length cs; own = own } in s)) one_columns one_own
 
       rows_tree : (v : Table) (rows : List TableRow) (o : Owner) (is : IsRowsTree v rows o) → IsTree pages size o → IsTableTree pages size v.root is.entries o.used
       rows_tree v rows o is tree = subst (λ (root : ℕ). IsTableTree pages size root is.entries o.used) is.root_is (subst (HoldsUnder pages size o.root o.used) is.content_is tree)
 
       one_rows : HasItsTree one.rows_at (TableTold t) → HasItsTree other.rows_at (TableTold u) → one.rows_at t.root ≡ other.rows_at u.root
       one_rows mine its =
-          same_rows (length t.columns) mine.1.0.entries its.1.0.entries (one.rows_at t.root) (other.rows_at u.root)
+          same_rows (shape_of t) mine.1.0.entries its.1.0.entries (one.rows_at t.root) (other.rows_at u.root)
           (trees pages size u.root mine.1.0.entries its.1.0.entries mine.0.used its.0.used
           (subst (λ (root : ℕ). IsTableTree pages size root mine.1.0.entries mine.0.used) one_root (rows_tree t (one.rows_at t.root) mine.0 mine.1.0 mine.1.1))
           (rows_tree u (other.rows_at u.root) its.0 its.1.0 its.1.1)).0
           mine.1.0.each
-          (subst (λ (cs : List Column). Pairwise (IsRow (length cs)) its.1.0.entries (other.rows_at u.root)) (sym one_columns) its.1.0.each)
+          (subst (λ (s : RowShape). Pairwise (IsRow s) its.1.0.entries (other.rows_at u.root)) (sym one_shape) its.1.0.each)
 
       tables_alike : HasItsTree one.rows_at (TableTold t) → HasItsTree other.rows_at (TableTold u) → AreAlike one.rows_at other.rows_at (TableTold t) (TableTold u)
-      tables_alike mine its = (ap folded one_name, λ i. ATable (table_with (one_columns i) (one_checks i) (one_rows mine its i)))
+      tables_alike mine its = (ap folded one_name, λ i. ATable (table_with (one_columns i) (one_own i) (one_checks i) (one_rows mine its i)))
 
     -- ---- two indexes of one row
 

@@ -1,7 +1,6 @@
 -- The rows of page 1 are the rows of the schema table of the database that the told tables and indexes make.
-use Rattle.std.proofs.Common.{◌≡◌, ◌∙◌, inl, inr, refl, sym, ap, subst, ℕ, ℤ, Bool, true, false, not, List, [], ◌∷◌, map, codes, Some, None}
+use Rattle.std.proofs.Common.{◌≡◌, ◌∙◌, inl, inr, refl, sym, ap, subst, ℕ, ℤ, List, [], ◌∷◌, map, codes, Some, None}
 use Rattle.std.specs.Prelude.{⊤}
-use Rattle.std.proofs.lemmas.Bool.{false≢true}
 use Rattle.std.specs.FinMap.Entries.{find}
 use Rattle.std.specs.List.{AllByRecursion}
 use Rattle.tree_leaf.specs.Leaf.{Entry}
@@ -14,7 +13,6 @@ use Rattle.catalog.specs.Listed.{as_index, key_columns, with_rows}
 use Rattle.catalog.specs.declared.tables.Index.{Index}
 use Rattle.catalog.specs.declared.tables.Table.{Table}
 use Rattle.catalog.proofs.NamedDatabases.{folded_twice}
-use Rattle.query_names.specs.Creating.{has_rowid_key}
 use Rattle.query_names.specs.Schema.{automatic}
 use Rattle.query_names.proofs.CreatedTables.{listed_made}
 use Rattle.db_files.specs.Schema as listed
@@ -64,10 +62,6 @@ rows_named pages (one ∷ told) (row ∷ rows) tell =
 
 -- ---- what they say
 
-not_true : (b : Bool) → not b ≡ true → b ≡ false
-not_true true h = absurd (false≢true h)
-not_true false h = refl
-
 -- of a table, that the database has the indexes that its keys ask for as its automatic ones
 abbrev pub HasDueIn : Database → Told → Type 0
 HasDueIn db (TableTold t) = sorted by_name (due_objects t) ≡ automatic_indexes db t.name
@@ -82,7 +76,7 @@ module _ (rows_at : ℕ → List (ℤ × List Value)) (db : Database) (pages : �
   -- the row's text makes the table
   table_said : (t : Table) (row : Entry) (tells : IsTableRow pages t row) → HasDueIn db (TableTold t) → listed.IsTableRow supported_language db (row_told pages (TableTold t) row tells) (with_rows t (rows_at t.root))
   table_said t row tells due =
-      let made = listed_made tells.definition (not_true (has_rowid_key tells.definition) tells.creates.1) t tells.makes.once tells.makes.columns tells.makes.keys tells.makes.checks in
+      let made = listed_made tells.definition t tells.makes.once tells.makes.columns tells.makes.keys tells.makes.checks in
       record {
         definition = tells.definition;
         kind = refl;

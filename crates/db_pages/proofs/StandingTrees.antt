@@ -18,7 +18,7 @@ use Rattle.tree_page.specs.Cells.{Pairwise}
 use Rattle.tree_table.specs.Tree.{IsTableTree}
 use Rattle.tree_index.specs.Tree.{IsIndexTree}
 use Rattle.catalog.specs.Database.{ATable, AnIndex, Database, Name, name_order, object}
-use Rattle.catalog.specs.Listed.{is_table, as_index, with_rows, table_named}
+use Rattle.catalog.specs.Listed.{is_table, as_index, shape_of, with_rows, table_named}
 use Rattle.catalog.specs.Rows.{are_rows}
 use Rattle.catalog.specs.declared.tables.Index.{Index}
 use Rattle.catalog.specs.declared.tables.Table.{Table}
@@ -63,12 +63,12 @@ all_whole pages size whole = all_of (λ page. length page ≡ size) pages (λ i 
     at_place : (i : ℕ) → length (page_at pages (suc i)) ≡ size → length (get_or pages i []) ≡ size
     at_place i is = ap (λ (k : ℕ). length (get_or pages k [])) (omega arith) ∙ is
 
--- rows of a table without a column for its rowid are stored as they are
-stored_rows : (t : Table) (more rows : List TableRow) (width : ℕ) (entries : List Entry) → Pairwise (IsRow width) entries rows → Pairwise (IsStoredRow (with_rows t more)) entries rows
-stored_rows t more [] width [] each = tt
-stored_rows t more (row ∷ rows) width [] each = absurd each
-stored_rows t more [] width (entry ∷ entries) each = absurd each
-stored_rows t more (row ∷ rows) width (entry ∷ entries) each = (record { rowid = each.0.rowid; values = each.0.values }, stored_rows t more rows width entries each.1)
+-- rows of a table's shape are stored as its rows
+stored_rows : (t : Table) (more rows : List TableRow) (entries : List Entry) → Pairwise (IsRow (shape_of t)) entries rows → Pairwise (IsStoredRow (with_rows t more)) entries rows
+stored_rows t more [] [] each = tt
+stored_rows t more (row ∷ rows) [] each = absurd each
+stored_rows t more [] (entry ∷ entries) each = absurd each
+stored_rows t more (row ∷ rows) (entry ∷ entries) each = (record { rowid = each.0.rowid; values = each.0.values }, stored_rows t more rows entries each.1)
 
 -- the pages of each tree
 abbrev pub useds_of : List Owner → List (List ℕ)
@@ -147,7 +147,7 @@ module _ (pages : PageMap) (size : ℕ) (tables : List Table) (db : Database) (s
   table_rows t o is tree = record {
     entries = is.entries;
     tree = subst (λ (root : ℕ). IsTableTree pages size root is.entries o.used) is.root_is (subst (HoldsUnder pages size o.root o.used) is.content_is tree);
-    rows = stored_rows t (stored.rows_at t.root) (stored.rows_at t.root) (length t.columns) is.entries is.each;
+    rows = stored_rows t (stored.rows_at t.root) (stored.rows_at t.root) is.entries is.each;
   }
 
   -- the tree of an index lists the entries of its table's rows

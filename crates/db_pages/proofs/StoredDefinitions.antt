@@ -1,6 +1,5 @@
 -- The table that a row of the schema table tells.
-use Rattle.std.proofs.Common.{◌≡◌, refl, sym, ap, ap₂, subst, ◌∙◌, ℕ, ℤ, pos, Bool, true, false, not, List, [], ◌∷◌, ◌++◌, map, Some}
-use Rattle.std.proofs.lemmas.Bool.{false≢true}
+use Rattle.std.proofs.Common.{◌≡◌, refl, sym, ap, ap₂, subst, ◌∙◌, ℕ, ℤ, pos, List, [], ◌∷◌, ◌++◌, map, Option, Some}
 use Rattle.std.specs.List.{list_any}
 use Rattle.std.specs.Prelude.{codes}
 use Rattle.sqlval.specs.Affinity.{declared_affinity}
@@ -20,7 +19,7 @@ use Rattle.catalog.specs.declared.tables.IndexColumn.{IndexColumn}
 use Rattle.catalog.specs.declared.tables.Table.{Table}
 use Rattle.query_terms.specs.Terms.{Term}
 use Rattle.query_names.specs.Checked.{Checked, Meant, both, faults, good, known_all, meant}
-use Rattle.query_names.specs.Creating.{checks_known, defined, described, has_rowid_key, table_keys_known}
+use Rattle.query_names.specs.Creating.{checks_known, defined, described, table_keys_known}
 use Rattle.query_names.specs.Schema.{automatic}
 use Rattle.query_names.specs.Tables.{affinity_known, collation_of, column_of, default_of, is_not_null, last_of, table_made}
 use Rattle.query_names.proofs.CreatedTables.{IsAccepted, accepted, listed_made}
@@ -43,13 +42,21 @@ column_for c = listed_as c.name (meant (column_of c))
 abbrev pub checks_for : TableDefinition → List Term
 checks_for d = meant (checks_known d (map column_for d.columns))
 
+-- what its keys ask for
+abbrev asked_of : TableDefinition → Option ℕ × List Keys
+asked_of d = meant (table_keys_known d (map column_for d.columns))
+
+-- the place of the column that is another name of the rowid
+abbrev pub own_for : TableDefinition → Option ℕ
+own_for d = (asked_of d).0
+
 -- the columns of each index that its keys ask for
 abbrev pub keys_for : TableDefinition → List (List IndexColumn)
-keys_for d = map (map key_for) (meant (table_keys_known d (map column_for d.columns)))
+keys_for d = map (map key_for) (asked_of d).1
 
 -- the table of a definition, whose tree begins at this page, and whose row has this rowid
 abbrev pub table_of : TableDefinition → ℕ → ℤ → Table
-table_of d root rowid = record { name = d.name; columns = map column_for d.columns; checks = checks_for d; keys = keys_for d; indexes = []; root = root; rowid = rowid }
+table_of d root rowid = record { name = d.name; columns = map column_for d.columns; rowid_column = own_for d; checks = checks_for d; keys = keys_for d; indexes = []; root = root; rowid = rowid }
 
 not_bad : {A : Type 0} (k : Checked A) → faults k ≡ [] → k ≡ good (meant k)
 not_bad (Meant x rs) none = ap (λ ss. Meant x ss) none
@@ -85,10 +92,10 @@ each_same [] = refl
 each_same (key ∷ keys) = ap₂ (λ (k : Keys) (ks : List Keys). k ∷ ks) (same_keys key) (each_same keys)
 
 -- where nothing is refused, its keys are known over its columns
-keys_so : (d : TableDefinition) → IsAccepted d → table_keys_known d (map column_for d.columns) ≡ good (map key_columns (keys_for d))
+keys_so : (d : TableDefinition) → IsAccepted d → table_keys_known d (map column_for d.columns) ≡ good (own_for d, map key_columns (keys_for d))
 keys_so d is =
     not_bad (table_keys_known d (map column_for d.columns)) (is.keyed (map column_for d.columns) (described_so d.columns is.known))
-    ∙ ap (λ (keys : List Keys). good keys) (sym (each_same (meant (table_keys_known d (map column_for d.columns)))))
+    ∙ ap (λ (keys : List Keys). good (own_for d, keys)) (sym (each_same (asked_of d).1))
 
 -- ---- what its row says
 
@@ -104,7 +111,7 @@ pub record IsTold (db : Database) (row : SchemaRow) (t : database.Table) : Type 
   pub accepts : IsAccepted definition
   pub described_is : map described (map column_for definition.columns) ≡ map defined definition.columns
   pub checks_are : checks_known definition (map column_for definition.columns) ≡ good (checks_for definition)
-  pub keys_are : table_keys_known definition (map column_for definition.columns) ≡ good (map key_columns (keys_for definition))
+  pub keys_are : table_keys_known definition (map column_for definition.columns) ≡ good (own_for definition, map key_columns (keys_for definition))
   pub made : (root : ℕ) (rowid : ℤ) → t ≡ with_rows (table_of definition root rowid) t.rows
   pub automatic_are : sorted (λ a b. name_order a.0 b.0) (automatic definition.name 1 (map key_columns (keys_for definition))) ≡ automatic_indexes db definition.name
 
@@ -112,20 +119,15 @@ pub record IsTold (db : Database) (row : SchemaRow) (t : database.Table) : Type 
 abbrev Made : Type 0
 Made = database.Table × List Keys
 
-not_true : (b : Bool) → not b ≡ true → b ≡ false
-not_true true h = absurd (false≢true h)
-not_true false h = refl
-
 -- what the definition makes, both ways
-both_made : (d : TableDefinition) (t : database.Table) (keys : List Keys) (root : ℕ) (rowid : ℤ) → has_rowid_key d ≡ false → IsAccepted d → table_made d ≡ good (record t { rows = [] }, keys)
+both_made : (d : TableDefinition) (t : database.Table) (keys : List Keys) (root : ℕ) (rowid : ℤ) → IsAccepted d → table_made d ≡ good (record t { rows = [] }, keys)
     → ◌≡◌ {A = Made} (with_rows (table_of d root rowid) [], map key_columns (keys_for d)) (record t { rows = [] }, keys)
-both_made d t keys root rowid plain is made =
-    ap (meant {A = Made}) (sym (listed_made d plain (table_of d root rowid) is.once (described_so d.columns is.known) (keys_so d is) (checks_so d is)) ∙ made)
+both_made d t keys root rowid is made =
+    ap (meant {A = Made}) (sym (listed_made d (table_of d root rowid) is.once (described_so d.columns is.known) (keys_so d is) (checks_so d is)) ∙ made)
 
 pub told : (db : Database) (row : SchemaRow) (t : database.Table) → IsTableRow supported_language db row t → IsTold db row t
 told db row t is =
     let accepts : IsAccepted is.definition = accepted (others db is.definition.name) is.definition is.text.accepts in
-    let plain : has_rowid_key is.definition ≡ false = not_true (has_rowid_key is.definition) is.text.creates.1 in
     record {
       definition = is.definition;
       sql = is.text.text;
@@ -138,7 +140,7 @@ told db row t is =
       described_is = described_so is.definition.columns accepts.known;
       checks_are = checks_so is.definition accepts;
       keys_are = keys_so is.definition accepts;
-      made = λ root rowid. ap (λ (m : Made). record m.0 { rows = t.rows }) (sym (both_made is.definition t is.keys root rowid plain accepts is.made));
+      made = λ root rowid. ap (λ (m : Made). record m.0 { rows = t.rows }) (sym (both_made is.definition t is.keys root rowid accepts is.made));
       automatic_are = subst (λ (keys : List Keys). sorted (λ a b. name_order a.0 b.0) (automatic is.definition.name 1 keys) ≡ automatic_indexes db is.definition.name)
-          (sym (ap (λ (m : Made). m.1) (both_made is.definition t is.keys 0 (pos 0) plain accepts is.made))) is.automatic_are;
+          (sym (ap (λ (m : Made). m.1) (both_made is.definition t is.keys 0 (pos 0) accepts is.made))) is.automatic_are;
     }

@@ -15,12 +15,13 @@ use Rattle.tree_index.specs.Tree.{IsIndexTree}
 use Rattle.index_entries.specs.Entries.{Columns, collations, entries_of_rows}
 use Rattle.catalog.specs.Database as database
 use Rattle.catalog.specs.Database.{Name, Database, Object, ATable, AnIndex, AView, ATrigger, name_order, object}
-use Rattle.catalog.specs.Listed.{as_column, with_rows}
-use Rattle.catalog.specs.Rows.{are_rows, holds_rows, is_in_order, is_row}
+use Rattle.catalog.specs.Listed.{as_column, shape_of, with_rows}
+use Rattle.catalog.specs.Rows.{are_rows, holds_rowid, holds_rows, in_record, is_in_order, is_row}
 use Rattle.catalog.specs.declared.tables.Index.{Index}
+use Rattle.catalog.specs.declared.tables.RowShape.{RowShape}
 use Rattle.catalog.specs.declared.tables.Table.{Table}
 use Rattle.query_names.proofs.ColumnNames.{folded_twice}
-use Rattle.db_files.specs.Contents.{HasPages, HasTree, IsStoredRow, ListsEntries, ListsRows, stored}
+use Rattle.db_files.specs.Contents.{HasPages, HasTree, IsStoredRow, ListsEntries, ListsRows}
 use Rattle.db_files.specs.Schema.{IsAutomaticRow, IsSchemaEntry, SchemaRow, IsRowOfObject, IsSchemaRowOf}
 use Rattle.db_layout.specs.Layout.{OfEntries, OfRows, Owner, used_by}
 use Rattle.db_layout.specs.Trees.{columns_of}
@@ -66,7 +67,7 @@ pub record IsListing (pages : PageMap) (size : ℕ) (db : Database) (l : Listing
   pub found : object db l.row.name ≡ Some (ATable (with_rows l.table l.content))
   pub fit : are_rows (with_rows l.table l.content) ≡ true
   pub tree : IsTableTree pages size l.table.root l.entries l.used
-  pub each : Pairwise (IsRow (length l.table.columns)) l.entries l.content
+  pub each : Pairwise (IsRow (shape_of l.table)) l.entries l.content
 
 -- the index as the database has it
 abbrev pub index_there : IndexListing → database.Index
@@ -129,21 +130,22 @@ owners_in items = map owner_of items
 
 -- ---- rows
 
--- what the entries of a leaf are is what they are as rows of so many values
-rows_so : (t : database.Table) (width : ℕ) (entries : List Entry) (rows : List TableRow) → t.rowid_column ≡ None → length t.columns ≡ width → list_all (is_row t) rows ≡ true
-    → Pairwise (IsStoredRow t) entries rows → Pairwise (IsRow width) entries rows
-rows_so t width [] [] plain wide fit are = tt
-rows_so t width [] (row ∷ rows) plain wide fit are = absurd are
-rows_so t width (entry ∷ entries) [] plain wide fit are = absurd are
-rows_so t width (entry ∷ entries) (row ∷ rows) plain wide fit are =
+-- what the entries of a leaf are is what they are as rows of a shape
+rows_so : (t : database.Table) (shape : RowShape) (entries : List Entry) (rows : List TableRow) → t.rowid_column ≡ shape.own → length t.columns ≡ shape.width → list_all (is_row t) rows ≡ true
+    → Pairwise (IsStoredRow t) entries rows → Pairwise (IsRow shape) entries rows
+rows_so t shape [] [] own wide fit are = tt
+rows_so t shape [] (row ∷ rows) own wide fit are = absurd are
+rows_so t shape (entry ∷ entries) [] own wide fit are = absurd are
+rows_so t shape (entry ∷ entries) (row ∷ rows) own wide fit are =
     let first : is_row t row ≡ true = first_of (is_row t row) (list_all (is_row t) rows) fit in
     let full : (length row.1 == length t.columns) ≡ true = second_of _ (length row.1 == length t.columns) (first_of _ _ (first_of _ _ first)) in (
       record {
         rowid = are.0.rowid;
-        values = subst (λ (place : Option ℕ). IsRecord entry.payload (stored place row.1)) plain are.0.values;
+        values = subst (λ (place : Option ℕ). IsRecord entry.payload (in_record place row.1)) own are.0.values;
         full = eqb-true _ _ full ∙ wide;
+        own = subst (λ (place : Option ℕ). holds_rowid place row ≡ true) own (second_of _ (holds_rowid t.rowid_column row) first);
       },
-      rows_so t width entries rows plain wide (second_of (is_row t row) (list_all (is_row t) rows) fit) are.1,
+      rows_so t shape entries rows own wide (second_of (is_row t row) (list_all (is_row t) rows) fit) are.1,
     )
 
 all_hold : (es : Database) → list_all (λ o. holds_rows o.1) es ≡ true → AllByRecursion (λ e. holds_rows e.1 ≡ true) es
@@ -175,7 +177,7 @@ module _ (pages : PageMap) (size : ℕ) (db : Database) (in_order : is_in_order 
     found = found ∙ ap (λ (x : database.Table). Some (ATable x)) made;
     fit = subst (λ (x : database.Table). are_rows x ≡ true) made fit_rows;
     tree = lists.tree;
-    each = rows_so t _ lists.entries t.rows (ap (λ (x : database.Table). x.rowid_column) made) wide (second_of _ (list_all (is_row t) t.rows) fit_rows) lists.rows;
+    each = rows_so t (shape_of its_listing.table) lists.entries t.rows (ap (λ (x : database.Table). x.rowid_column) made) wide (second_of _ (list_all (is_row t) t.rows) fit_rows) lists.rows;
   }
 
 -- ---- the row of an index

@@ -1,5 +1,5 @@
 -- What the rows tell, the names and the trees: in the order of the rows, and in that of the tables with their indexes.
-use Rattle.std.proofs.Common.{◌≡◌, refl, sym, ap, ap₂, ◌∙◌, pos, Bool, true, false, cond, List, [], ◌∷◌, ◌++◌, map, flat_map, Option}
+use Rattle.std.proofs.Common.{◌≡◌, refl, sym, ap, ap₂, ◌∙◌, pos, Bool, true, false, cond, List, [], ◌∷◌, ◌++◌, map, flat_map, Option, None}
 use Rattle.std.specs.List.{AllByRecursion}
 use Rattle.std.specs.Prelude.{unwrap_or}
 use Rattle.catalog.specs.Database.{Name}
@@ -23,7 +23,7 @@ map_twice g f (x ∷ xs) = ap (λ zs. g (f x) ∷ zs) (map_twice g f xs)
 -- ---- what is told
 
 abbrev pub no_table : Table
-no_table = record { name = []; columns = []; checks = []; keys = []; indexes = []; root = 0; rowid = pos 0 }
+no_table = record { name = []; columns = []; rowid_column = None; checks = []; keys = []; indexes = []; root = 0; rowid = pos 0 }
 
 -- the table of a name
 abbrev pub table_for : List Item → Name → Table

@@ -1,5 +1,5 @@
 -- The trees of the tables and indexes that the schema's rows tell: each is as its table wants it, and no two begin at one page.
-use Rattle.std.proofs.Common.{◌≡◌, inl, inr, ◌≤◌, ◌==◌, refl, sym, ap, subst, ◌∙◌, cond, ℕ, Bool, true, false, List, [], ◌∷◌, length, map, Some, arith}
+use Rattle.std.proofs.Common.{◌≡◌, inl, inr, ◌≤◌, ◌==◌, refl, sym, ap, subst, ◌∙◌, cond, ℕ, Bool, true, false, List, [], ◌∷◌, map, Some, arith}
 use Rattle.std.proofs.lemmas.Bool.{cases_lt}
 use Rattle.std.proofs.lemmas.Bool.Decides.{nat_tests}
 use Rattle.std.specs.FinMap.Entries.{find}
@@ -11,7 +11,7 @@ use Rattle.tree_page.specs.Cells.{Pairwise}
 use Rattle.index_entries.specs.Entries.{collations, entries_of_rows}
 use Rattle.catalog.specs.Database as database
 use Rattle.catalog.specs.Database.{Database, ATable, name_order, object}
-use Rattle.catalog.specs.Listed.{with_rows}
+use Rattle.catalog.specs.Listed.{shape_of, with_rows}
 use Rattle.catalog.specs.Rows.{are_rows}
 use Rattle.row_scan.specs.Rows.{IsRow, TableRow}
 use Rattle.db_layout.specs.Layout.{IsTree, OfEntries, Owner, used_by}
@@ -88,7 +88,7 @@ module _ (pages : PageMap) (size : ℕ) (db : Database) (all : List Listing) (in
         root_is = refl;
         entries = l.entries;
         content_is = refl;
-        each = subst (λ (rows : List TableRow). Pairwise (IsRow (length l.table.columns)) l.entries rows) (sym stands.content_is) stands.is.each;
+        each = subst (λ (rows : List TableRow). Pairwise (IsRow (shape_of l.table)) l.entries rows) (sym stands.content_is) stands.is.each;
       },
       both_so l (theirs is_on indexes l) (all_theirs (λ i. IsEntriesTree (rows_of l) i.index (index_tree i)) l indexes
           (all_so (IsIndexListing pages size db) (λ i. is_on l i ≡ true → IsEntriesTree (rows_of l) i.index (index_tree i)) (λ i is on. entries_so l i stands is on) indexes each_index)),

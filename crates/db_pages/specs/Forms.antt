@@ -1,11 +1,10 @@
 -- The forms of CREATE that are supported so far. The list only grows, and goes away when all are.
-use Rattle.std.specs.Prelude.{Bool, true, false, not}
+use Rattle.std.specs.Prelude.{Bool, true, false}
 use Rattle.sql_syntax.specs.declared.create.NewObject.{NewObject}
 use Rattle.sql_syntax.specs.declared.create.NewObject.TheVariants as new
-use Rattle.query_names.specs.Creating.{has_rowid_key}
 
--- a table of which no column is another name of the rowid, and an index
+-- a table, and an index
 abbrev pub is_object_supported : NewObject → Bool
-is_object_supported (new.Table d) = not (has_rowid_key d)
+is_object_supported (new.Table d) = true
 is_object_supported (new.Index d) = true
 is_object_supported _ = false

@@ -11,7 +11,7 @@ use Rattle.pages.specs.Map.{PageMap}
 use Rattle.tree_table.specs.Calls.{BecomesRows}
 use Rattle.tree_table.specs.Freeing.{ClearsTree}
 use Rattle.db_layout.specs.Layout.{Owner}
-use Rattle.catalog.specs.Listed.{with_rows}
+use Rattle.catalog.specs.Listed.{shape_of, with_rows}
 use Rattle.catalog.specs.Rows.{are_rows}
 use Rattle.catalog.specs.declared.tables.Table.{Table}
 use Rattle.catalog.specs.declared.tables.TableRow as stored
@@ -91,7 +91,7 @@ not_filtered p q rows r (Err s) e = ap (λ (x : Refusal). Err x) (same_refusal s
 
 module _ (old mid : PageMap) (size : ℕ) (table : Table) (c : Term) where
   abbrev reading : BoundSource
-  reading = record { root = table.root; width = length table.columns }
+  reading = record { root = table.root; shape = shape_of table }
 
   -- no rows are read
   pub none_read : (condition : Option Term) (fault : Fault) (result : Result ⊤ Fault) → IsErrAnd result (λ e. e ≡ fault) → LoadsEnough old size table condition (Err fault) → DeletesInTrees old mid size table (Some c) result

@@ -1,5 +1,5 @@
 -- What making the tree of a new index comes to.
-use Rattle.std.proofs.Common.{◌≡◌, ◌⊎◌, inl, inr, refl, sym, ap, subst, ◌∙◌, ◌||◌, ℕ, Bool, true, false, List, [], ◌∷◌, ◌++◌, length, if◌then◌else◌, Ok, Err}
+use Rattle.std.proofs.Common.{◌≡◌, ◌⊎◌, inl, inr, refl, sym, ap, subst, ◌∙◌, ◌||◌, ℕ, Bool, true, false, List, [], ◌∷◌, ◌++◌, if◌then◌else◌, Ok, Err}
 use Rattle.std.specs.Prelude.{Result, MatchResult}
 use Rattle.std.specs.List.{AllByRecursion, list_any}
 use Rattle.std.specs.Ordering.{is_gt}
@@ -16,7 +16,7 @@ use Rattle.tree_index.specs.Entries.{Entry, entry_cmp}
 use Rattle.tree_index.specs.Filling.{IsFilled, IsFillRefusal}
 use Rattle.db_layout.specs.Layout.{AreShared, Owner}
 use Rattle.catalog.specs.Database as database
-use Rattle.catalog.specs.Listed.{with_rows}
+use Rattle.catalog.specs.Listed.{shape_of, with_rows}
 use Rattle.catalog.specs.Rows.{are_rows}
 use Rattle.catalog.specs.declared.tables.Index.{Index}
 use Rattle.catalog.specs.declared.tables.IndexColumn.{IndexColumn}
@@ -113,12 +113,12 @@ module _ (old new : PageMap) (size : ℕ) (table : Table) (columns : List IndexC
         refused (inl outside) = inl (inl outside)
         refused (inr clash) = inr (inl (clash, apart))
 
-  pub index_added : (result : Result ℕ Fault) (is_unique : Bool) → is_unique ≡ false → MakesIndex old new size (record { root = table.root; width = length table.columns }) columns result → AddsIndex old new size table columns is_unique result
+  pub index_added : (result : Result ℕ Fault) (is_unique : Bool) → is_unique ≡ false → MakesIndex old new size (record { root = table.root; shape = shape_of table }) columns result → AddsIndex old new size table columns is_unique result
   index_added result is_unique plain makes schema before after rows sized is_root among fit =
       let s = rows_among old size schema before table rows after among sized is_root in
       filled schema before rows after s is_unique result fit (none_twice (index_of columns is_unique) rows plain) (makes rows s.free s.stands.free_are sized (has_rows old size schema before table rows after s))
 
-  pub unique_added : (result : Result ℕ Fault) (is_unique : Bool) → is_unique ≡ true → MakesUniqueIndex old new size (record { root = table.root; width = length table.columns }) columns result
+  pub unique_added : (result : Result ℕ Fault) (is_unique : Bool) → is_unique ≡ true → MakesUniqueIndex old new size (record { root = table.root; shape = shape_of table }) columns result
       → AddsIndex old new size table columns is_unique result
   unique_added result is_unique unique makes = subst (λ (b : Bool). AddsIndex old new size table columns b result) (sym unique) (λ schema before after rows sized is_root among fit. (
       let s = rows_among old size schema before table rows after among sized is_root in

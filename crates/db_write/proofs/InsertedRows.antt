@@ -1,6 +1,8 @@
 -- What inserting rows one after another comes to, each with its entries.
-use Rattle.std.proofs.Common.{◌≡◌, ◌⊎◌, inl, inr, refl, sym, ap, subst, ◌∙◌, ◌≤◌, ◌<◌, ◌-◌, ℕ, ℤ, true, List, [], ◌∷◌, ◌++◌, length, map, take, drop, slice_index_or, Option, Some, Ok, Err, arith}
-use Rattle.std.specs.Prelude.{Result, IsErrAnd, MatchResult, ⊤, unwrap_or}
+use Rattle.std.proofs.Common.{◌≡◌, ◌⊎◌, inl, inr, refl, sym, ap, subst, ◌∙◌, ◌≤◌, ◌<◌, ◌-◌, ℕ, ℤ, true, List, [], ◌∷◌, ◌++◌, length, map, take, drop, slice_index_or, Option, Some, None, Ok, Err, arith}
+use Rattle.std.specs.Prelude.{Result, IsErrAnd, MatchResult, ⊤}
+use Rattle.std.specs.FinMap.Entries.{find, put}
+use Rattle.std.specs.Ordering.{int_cmp}
 use Rattle.sqlval.specs.Faults.{IsOutside}
 use Rattle.sqlval.specs.PageSizes.{IsPageSize}
 use Rattle.sqlval.specs.Refusals.{Answer, Refusal, ◌then◌, refusal_of}
@@ -13,39 +15,40 @@ use Rattle.tree_page.specs.Cells.{Pairwise}
 use Rattle.tree_table.specs.Calls.{FindsLast}
 use Rattle.tree_table.specs.Rows as tree
 use Rattle.db_layout.specs.Layout.{Owner}
-use Rattle.catalog.specs.Listed.{with_rows}
+use Rattle.catalog.specs.Listed.{shape_of, with_rows}
 use Rattle.catalog.specs.Rows.{are_rows}
+use Rattle.catalog.specs.declared.tables.RowShape.{RowShape}
 use Rattle.catalog.specs.declared.tables.Table.{Table}
 use Rattle.catalog.specs.declared.tables.TableRow as stored
 use Rattle.row_scan.specs.Rows.{IsRow, TableRow}
 use Rattle.row_change.specs.Demands.{admitted}
 use Rattle.row_change.specs.Inserting.{last_rowid, row_added, rows_inserted}
 use Rattle.row_change.specs.NewRows.{row_of}
-use Rattle.row_change.specs.Trees.{IsPutIn, PutsRow}
+use Rattle.row_change.specs.Trees.{IsPutIn, PutsRow, row_put}
+use Rattle.row_change.proofs.Rising.{fit_rows_rise}
+use Rattle.index_entries.specs.Entries.{AreApart}
 use Rattle.index_entries.specs.Keeping.{row_in}
 use Rattle.db_write.specs.Changing.{AreInserted, HoldsFitRows, InsertsInTrees, IsRefusedInsert}
-use Rattle.db_write.specs.OneRow.{InsertsFrom, InsertsOne, IsOneInserted, IsRefusedAs, row_inserted}
+use Rattle.db_write.specs.OneRow.{InsertsFrom, InsertsOne, IsOneInserted, IsRefusedAs, last_with, row_inserted}
 use Rattle.db_write.specs.Turning.{AddsRowToIndexes, HaveAlone, IsRowRefused}
 use Rattle.db_write.proofs.Among.{keeps_all, keeps_then, rows_tree}
-use Rattle.db_write.proofs.Clashing.{clash_refused, passes}
+use Rattle.db_write.proofs.Clashing.{clash_refused, in_turn, passes, where_alone}
 use Rattle.db_write.proofs.Looping.{first_of, none_left}
-use Rattle.db_write.proofs.Owned.{RowsStand, fit_apart, indexes_stand, rows_among, table_holds}
-use Rattle.db_write.proofs.Widths.{one_storable, wide_among}
+use Rattle.db_write.proofs.Owned.{RowsStand, fit_apart, indexes_stand, rows_among, same_now, table_holds}
+use Rattle.db_write.proofs.PutRows.{last_of_put, own_free, put_shuffles}
+use Rattle.db_write.proofs.Shuffling.{Shuffles, shuffled_apart, shuffled_entries}
+use Rattle.db_write.proofs.Widths.{some_storable, wide_among}
 
 -- ---- the last rowid
 
-last_same : (width : ℕ) (entries : List Entry) (rows : List TableRow) → Pairwise (IsRow width) entries rows → tree.last_rowid entries ≡ last_rowid rows
-last_same width [] [] each = refl
-last_same width [] (row ∷ rows) each = absurd each
-last_same width (entry ∷ entries) [] each = absurd each
-last_same width (entry ∷ []) (row ∷ []) each = ap (λ (n : ℤ). Some n) each.0.rowid
-last_same width (entry ∷ []) (row ∷ next ∷ rows) each = absurd each.1
-last_same width (entry ∷ other ∷ entries) (row ∷ []) each = absurd each.1
-last_same width (entry ∷ other ∷ entries) (row ∷ next ∷ rows) each = last_same width (other ∷ entries) (next ∷ rows) each.1
-
-last_of_more : (rows : List TableRow) (row : TableRow) → last_rowid (rows ++ row ∷ []) ≡ Some row.0
-last_of_more [] row = refl
-last_of_more (other ∷ rows) row = ap (λ (last : Option ℤ). Some (unwrap_or last other.0)) (last_of_more rows row)
+last_same : (shape : RowShape) (entries : List Entry) (rows : List TableRow) → Pairwise (IsRow shape) entries rows → tree.last_rowid entries ≡ last_rowid rows
+last_same shape [] [] each = refl
+last_same shape [] (row ∷ rows) each = absurd each
+last_same shape (entry ∷ entries) [] each = absurd each
+last_same shape (entry ∷ []) (row ∷ []) each = ap (λ (n : ℤ). Some n) each.0.rowid
+last_same shape (entry ∷ []) (row ∷ next ∷ rows) each = absurd each.1
+last_same shape (entry ∷ other ∷ entries) (row ∷ []) each = absurd each.1
+last_same shape (entry ∷ other ∷ entries) (row ∷ next ∷ rows) each = last_same shape (other ∷ entries) (next ∷ rows) each.1
 
 -- ---- one row
 
@@ -60,41 +63,60 @@ module _ (old mid : PageMap) (size : ℕ) (table : Table) (places : List (Option
       let s = rows_among old size schema before table rows after among sized is_root in
       subst (λ (f : Fault). IsRefusedAs (row_inserted table places rows given) table f) (sym same) (by rows at (puts rows s.entries s.used s.free s.stands s.each at)))
     where
-      by : (rows : List TableRow) → last ≡ last_rowid rows → IsOutsideOrFull fault ⊎ (row_added table places last given ≡ Err (refusal_of fault)) → IsRefusedAs (row_inserted table places rows given) table fault
+      by : (rows : List TableRow) → last ≡ last_rowid rows → IsOutsideOrFull fault ⊎ (row_put table places rows given ≡ Err (refusal_of fault)) → IsRefusedAs (row_inserted table places rows given) table fault
       by rows at (inl outside) = inl outside
-      by rows at (inr is) = inr (inl (ap (λ (a : Answer TableRow). a then λ row. admitted table rows row) (ap (λ (l : Option ℤ). row_added table places l given) (sym at) ∙ is)))
+      by rows at (inr is) = inr (inl (in_turn table rows (row_added table places (last_rowid rows) given) ∙ ap (λ (a : Answer TableRow). a then where_alone table rows) is))
 
   -- it is put, and its entries are next
   module _ (row : stored.TableRow) (puts : PutsRow old mid size table.root table places given last (Ok row)) (new : PageMap) where
     module _ (schema : Owner) (before after : List Owner) (rows : List TableRow) (sized : IsPageSize size) (is_root : schema.root ≡ 1) (s : RowsStand old size schema before table rows after)
         (fit : are_rows (with_rows table rows) ≡ true) (at : last ≡ last_rowid rows) where
-      put : IsPutIn old mid size table.root table places given rows s.used s.free (row_of row)
-      put = puts rows s.entries s.used s.free s.stands s.each at
+      come : IsPutIn old mid size table.root table places given rows s.used s.free (row_of row)
+      come = puts rows s.entries s.used s.free s.stands s.each at
 
-      fits : are_rows (with_rows table (rows ++ row_of row ∷ [])) ≡ true
-      fits = put.fit fit
+      abbrev rows_now : List TableRow
+      rows_now = put int_cmp row.rowid row.values.items rows
+
+      free : find int_cmp row.rowid rows ≡ None
+      free = own_free (row_added table places (last_rowid rows) given) rows (row_of row) come.answer
+
+      fits : are_rows (with_rows table rows_now) ≡ true
+      fits = come.fit fit
+
+      come_apart : AreApart rows_now
+      come_apart = fit_apart table rows_now fits
+
+      -- in another order they are the rows that there were, and then the row
+      came : Shuffles rows (row_of row ∷ []) rows_now
+      came = put_shuffles (row_of row) rows free
 
       abbrev front : List Owner
-      front = before ++ rows_tree table.root put.entries put.becomes.now_used ∷ []
+      front = before ++ rows_tree table.root come.entries come.becomes.now_used ∷ []
 
       added : (result : Result ⊤ Fault) → AddsRowToIndexes mid new size table.indexes (row_in row) result
           → MatchResult result (λ done. HaveAlone mid new size schema front table.indexes (row_of row) rows (rows ++ row_of row ∷ []) after) (IsRowRefused table.indexes (row_of row) rows)
-      added result adds = adds rows (fit_apart table (rows ++ row_of row ∷ []) fits) schema front after sized is_root (indexes_stand old mid size schema before table rows after s put.entries put.becomes)
+      added result adds = adds rows (shuffled_apart came come_apart) schema front after sized is_root (indexes_stand old mid size schema before table rows after s come.entries come.becomes)
 
-      inserted : HaveAlone mid new size schema front table.indexes (row_of row) rows (rows ++ row_of row ∷ []) after → IsOneInserted old new size schema before table places given rows after (Some row.rowid)
+      answered : (a : Answer TableRow) → where_alone table rows (row_of row) ≡ a → row_inserted table places rows given ≡ a
+      answered a is = in_turn table rows (row_added table places (last_rowid rows) given) ∙ (ap (λ (b : Answer TableRow). b then where_alone table rows) come.answer ∙ is)
+
+      inserted : HaveAlone mid new size schema front table.indexes (row_of row) rows (rows ++ row_of row ∷ []) after → IsOneInserted old new size schema before table places given rows after (last_with last row.rowid)
       inserted have = record {
         row = row_of row;
-        answer = ap (λ (a : Answer TableRow). a then λ r. admitted table rows r) put.answer ∙ passes table (row_of row) rows have.alone;
-        is = refl;
-        hold = record { holds = table_holds old mid size schema before table rows after s put.entries put.becomes new (rows ++ row_of row ∷ []) put.each have.now; fit = fits };
+        answer = answered (Ok (row_of row)) (passes table (row_of row) rows have.alone);
+        is = ap (λ (l : Option ℤ). last_with l row.rowid) at ∙ last_of_put (row_of row) rows (fit_rows_rise (with_rows table rows) fit) free;
+        hold = record {
+          holds = table_holds old mid size schema before table rows after s come.entries come.becomes new rows_now come.each
+              (same_now mid new size schema front table.indexes (rows ++ row_of row ∷ []) rows_now after (λ columns. sym (shuffled_entries columns came come_apart)) have.now);
+          fit = fits;
+        };
       }
 
       refused : (fault : Fault) → IsRowRefused table.indexes (row_of row) rows fault → IsRefusedAs (row_inserted table places rows given) table fault
       refused fault (inl outside) = inl outside
       refused fault (inr (inl clash)) =
-          inr (inl (ap (λ (a : Answer TableRow). a then λ r. admitted table rows r) put.answer
-          ∙ (clash_refused table (row_of row) rows clash.1 ∙ ap (λ (f : Fault). not_given (refusal_of f)) (sym clash.0))))
-      refused fault (inr (inr long)) = inr (inr (long.0, wide_among table (rows ++ row_of row ∷ []) fits (λ all. long.1 (one_storable table.indexes rows (row_of row) [] all))))
+          inr (inl (answered (Err (refusal_of fault)) (clash_refused table (row_of row) rows clash.1 ∙ ap (λ (f : Fault). not_given (refusal_of f)) (sym clash.0))))
+      refused fault (inr (inr long)) = inr (inr (long.0, wide_among table rows_now fits (λ all. long.1 (some_storable table.indexes came all))))
 
     pub row_stopped : (fault : Fault) (result : Result (Option ℤ) Fault) → IsErrAnd result (λ e. e ≡ fault) → AddsRowToIndexes mid new size table.indexes (row_in row) (Err fault) → InsertsOne old new size table places given last result
     row_stopped fault (Ok last) same adds = absurd same
@@ -103,7 +125,7 @@ module _ (old mid : PageMap) (size : ℕ) (table : Table) (places : List (Option
         subst (λ (f : Fault). IsRefusedAs (row_inserted table places rows given) table f) (sym same)
         (refused schema before after rows sized is_root s fit at fault (added schema before after rows sized is_root s fit at (Err fault) adds)))
 
-    pub row_come : AddsRowToIndexes mid new size table.indexes (row_in row) (Ok tt) → InsertsOne old new size table places given last (Ok (Some row.rowid))
+    pub row_come : AddsRowToIndexes mid new size table.indexes (row_in row) (Ok tt) → InsertsOne old new size table places given last (Ok (last_with last row.rowid))
     row_come adds schema before after rows sized is_root among fit at =
         let s = rows_among old size schema before table rows after among sized is_root in
         inserted schema before after rows sized is_root s fit at (added schema before after rows sized is_root s fit at (Ok tt) adds)
@@ -111,7 +133,7 @@ module _ (old mid : PageMap) (size : ℕ) (table : Table) (places : List (Option
 -- ---- rows one after another
 
 abbrev Rest : Table → List (Option ℕ) → List TableRow → List (List Value) → TableRow → Answer (List TableRow)
-Rest table places rows more row = rows_inserted table places (rows ++ row ∷ []) more
+Rest table places rows more row = rows_inserted table places (put int_cmp row.0 row.1 rows) more
 
 one_and_more : (table : Table) (places : List (Option ℕ)) (rows : List TableRow) (given : List Value) (more : List (List Value))
     → rows_inserted table places rows (given ∷ more) ≡ (row_inserted table places rows given then Rest table places rows more)
@@ -141,17 +163,17 @@ module _ (old mid : PageMap) (size : ℕ) (table : Table) (places : List (Option
   pub inserts_more : (new : PageMap) (now : Option ℤ) (result : Result ⊤ Fault) → InsertsOne old mid size table places given last (Ok now) → InsertsFrom mid new size table places more now result
       → InsertsFrom old new size table places (given ∷ more) last result
   inserts_more new now result first next schema before after rows sized is_root among fit at =
-      by result (next schema before after (rows ++ one.row ∷ []) sized is_root one.hold.holds.among one.hold.fit (one.is ∙ sym (last_of_more rows one.row)))
+      by result (next schema before after (put int_cmp one.row.0 one.row.1 rows) sized is_root one.hold.holds.among one.hold.fit one.is)
     where
       one : IsOneInserted old mid size schema before table places given rows after now
       one = first schema before after rows sized is_root among fit at
 
-      same : rows_inserted table places rows (given ∷ more) ≡ rows_inserted table places (rows ++ one.row ∷ []) more
+      same : rows_inserted table places rows (given ∷ more) ≡ rows_inserted table places (put int_cmp one.row.0 one.row.1 rows) more
       same = one_and_more table places rows given more ∙ ap (λ (a : Answer TableRow). a then Rest table places rows more) one.answer
 
-      by : (r : Result ⊤ Fault) → MatchResult r (λ done. AreInserted mid new size schema before table places more (rows ++ one.row ∷ []) after) (IsRefusedInsert table places more (rows ++ one.row ∷ []))
+      by : (r : Result ⊤ Fault) → MatchResult r (λ done. AreInserted mid new size schema before table places more (put int_cmp one.row.0 one.row.1 rows) after) (IsRefusedInsert table places more (put int_cmp one.row.0 one.row.1 rows))
           → MatchResult r (λ done. AreInserted old new size schema before table places (given ∷ more) rows after) (IsRefusedInsert table places (given ∷ more) rows)
-      by (Ok done) are = record { now = are.now; answer = same ∙ are.answer; hold = since_before old mid new size schema before table (rows ++ one.row ∷ []) are.now after one.hold are.hold }
+      by (Ok done) are = record { now = are.now; answer = same ∙ are.answer; hold = since_before old mid new size schema before table (put int_cmp one.row.0 one.row.1 rows) are.now after one.hold are.hold }
       by (Err fault) (inl outside) = inl outside
       by (Err fault) (inr (inl is)) = inr (inl (same ∙ is))
       by (Err fault) (inr (inr wide)) = inr (inr wide)
@@ -186,4 +208,4 @@ module _ (old : PageMap) (size : ℕ) (table : Table) (places : List (Option ℕ
   pub inserted_from : (new : PageMap) (last : Option ℤ) (result : Result ⊤ Fault) → FindsLast old size table.root (Ok last) → InsertsFrom old new size table places given last result → InsertsInTrees old new size table places given result
   inserted_from new last result finds inserts schema before after rows sized is_root among fit =
       let s = rows_among old size schema before table rows after among sized is_root in
-      inserts schema before after rows sized is_root among fit (finds s.entries s.used s.stands.free_are.whole s.stands.tree ∙ last_same (length table.columns) s.entries rows s.each)
+      inserts schema before after rows sized is_root among fit (finds s.entries s.used s.stands.free_are.whole s.stands.tree ∙ last_same (shape_of table) s.entries rows s.each)

@@ -3,12 +3,12 @@ mod Clashing
 mod Deleted
 mod Dropped
 mod Indexed
-mod Inserted
 mod InsertedRows
 pub mod Looping
 pub mod Needed
 mod OneRows
 mod Owned
+mod PutRows
 mod SetShuffles
 mod Shuffling
 mod Sides

@@ -14,8 +14,8 @@ use Rattle.pages.specs.Map.{PageMap}
 use Rattle.tree_page.specs.Cells.{Pairwise}
 use Rattle.tree_index.specs.Tree.{IsIndexTree}
 use Rattle.db_layout.specs.Layout.{HoldsUnder, IsTree, Owner}
-use Rattle.catalog.specs.Listed.{as_column, with_rows}
-use Rattle.catalog.specs.Rows.{are_rows, is_row, is_value}
+use Rattle.catalog.specs.Listed.{as_column, own_column, shape_of, with_rows}
+use Rattle.catalog.specs.Rows.{are_rows, holds_rowid, is_row, is_value}
 use Rattle.catalog.specs.declared.tables.Index.{Index}
 use Rattle.catalog.specs.declared.tables.Table.{Table}
 use Rattle.catalog.specs.declared.tables.TableRow as stored
@@ -40,8 +40,8 @@ use Rattle.db_write.specs.Reading.{LoadsEnough}
 use Rattle.db_write.proofs.Owned.{RowsStand, has_rows, rows_among}
 
 -- as a query reads it
-pub same_source : (table : Table) (read : BoundSource) → read.root ≡ table.root → read.width ≡ length table.columns → read ≡ record { root = table.root; width = length table.columns }
-same_source table read root_is width_is = λ i. record { root = root_is i; width = width_is i }
+pub same_source : (table : Table) (read : BoundSource) → read.root ≡ table.root → read.shape ≡ shape_of table → read ≡ record { root = table.root; shape = shape_of table }
+same_source table read root_is shape_is = λ i. record { root = root_is i; shape = shape_is i }
 
 -- of rows that are enough for a condition those that it means were answered
 abbrev pub MeansRows : Option Term → List Row → Result (Vec stored.TableRow) Fault → Type 0
@@ -170,7 +170,7 @@ word_of : (table : Table) (rows : List TableRow) (row : TableRow) → is_row (wi
 word_of table rows row is =
     let long = length row.1 == length (map as_column table.columns) in
     let stored = list_all is_value row.1 in
-    left_of (is_word row.0) long (left_of (is_word row.0 && long) stored (left_of (is_word row.0 && long && stored) true is))
+    left_of (is_word row.0) long (left_of (is_word row.0 && long) stored (left_of (is_word row.0 && long && stored) (holds_rowid (own_column table) row) is))
 
 words_of : (test : TableRow → Bool) → ((row : TableRow) → test row ≡ true → is_word row.0 ≡ true) → (rows : List TableRow) → list_all test rows ≡ true → AllByRecursion (λ (row : TableRow). is_word row.0 ≡ true) rows
 words_of test word [] all = tt
@@ -184,7 +184,7 @@ are_words table rows fit =
 
 module _ (pages : PageMap) (size : ℕ) (table : Table) where
   abbrev source : BoundSource
-  source = record { root = table.root; width = length table.columns }
+  source = record { root = table.root; shape = shape_of table }
 
   has_indexed : (schema : Owner) (before : List Owner) (rows : List TableRow) (after : List Owner) → RowsStand pages size schema before table rows after → are_rows (with_rows table rows) ≡ true
       → HasIndexed pages size source table.indexes rows

@@ -1,7 +1,8 @@
 -- The entry of one row, in the trees of indexes side by side, one index after another.
-use Rattle.std.proofs.Common.{◌≡◌, ◌⊎◌, ◌∙◌, inl, inr, refl, sym, ap, subst, ◌&&◌, ◌||◌, ℕ, Bool, true, false, List, [], ◌∷◌, ◌++◌, Ok, Err}
+use Rattle.std.proofs.Common.{◌≡◌, ◌⊎◌, ◌∙◌, inl, inr, refl, sym, ap, subst, ◌&&◌, ◌||◌, ℕ, Bool, true, false, List, [], ◌∷◌, ◌++◌, Ok, Err, arith}
 use Rattle.std.specs.Prelude.{Result, IsErrAnd, MatchResult, ⊤}
 use Rattle.std.specs.List.{list_any}
+use Rattle.std.proofs.lemmas.List.{append-nil}
 use Rattle.sqlval.specs.PageSizes.{IsPageSize}
 use Rattle.sqlval.specs.declared.fault.Fault.{Fault}
 use Rattle.sqlval.specs.declared.fault.Fault.TheVariants.{Unique}
@@ -17,8 +18,8 @@ use Rattle.index_entries.specs.Entries.{collations, entries_of_rows}
 use Rattle.index_entries.specs.Keeping.{AddsEntries, IsAddRefusal, Turns}
 use Rattle.index_entries.specs.Replacing.{ReplacesEntry}
 use Rattle.db_layout.specs.Trees.{IsEntriesTree, columns_of}
-use Rattle.db_write.specs.Turning.{AddsRowToIndex, AddsRowToIndexes, HaveAlone, HaveEntries, IsRowRefused, ReplacesRowInIndex, ReplacesRowInIndexes, TurnAlone, TurnsAlone, clashes_among, clashes_at}
-use Rattle.db_write.proofs.Among.{entries_stand}
+use Rattle.db_write.specs.Turning.{AddsRowToIndex, AddsRowToIndexes, HaveAlone, HaveEntries, HaveNow, IsRowRefused, MovesRowInIndexes, ReplacesRowInIndex, ReplacesRowInIndexes, TakesFromIndexes, TurnAlone, TurnsAlone, clashes_among, clashes_at}
+use Rattle.db_write.proofs.Among.{entries_stand, keeps_then}
 use Rattle.db_write.proofs.Sides.{HasTurned, now_all, turn_none, turned}
 
 -- ---- one index
@@ -168,3 +169,35 @@ module _ (old mid : PageMap) (size : ℕ) (index : Index) (rest : List Index) (g
       → ReplacesRowInIndexes old mid size (index ∷ rest) gone come result
   replaces_stop fault result same first before after apart ids =
       alone_stop old mid size index rest (before ++ gone ∷ after) (before ++ come ∷ after) come (before ++ after) fault result same (first before after apart ids)
+
+-- ---- a row that goes, and another that comes
+
+-- to take the place of a row of its rowid is to come where it has gone
+pub replaced_moves : (old new : PageMap) (size : ℕ) (indexes : List Index) (gone come : TableRow) (result : Result ⊤ Fault) → gone.0 ≡ come.0 → ReplacesRowInIndexes old new size indexes gone come result
+    → MovesRowInIndexes old new size indexes gone come result
+replaced_moves old new size indexes gone come result same replaces rows apart next =
+    subst (λ (others : List TableRow). TurnAlone old new size indexes (rows ++ gone ∷ []) (rows ++ come ∷ []) come others result) (append-nil rows) (replaces rows [] apart same)
+
+module _ (old mid : PageMap) (size : ℕ) (indexes : List Index) (gone come : TableRow) where
+  pub moves_more : (new : PageMap) (result : Result ⊤ Fault) → TakesFromIndexes old mid size indexes (gone ∷ []) (Ok tt) → AddsRowToIndexes mid new size indexes come result → MovesRowInIndexes old new size indexes gone come result
+  moves_more new result takes adds rows apart next schema before after sized is_root have = by result (adds rows next schema before after sized is_root left.have)
+    where
+      left : HaveNow old mid size schema before indexes rows after
+      left = takes rows apart schema before after sized is_root have
+
+      by : (r : Result ⊤ Fault) → MatchResult r (λ done. HaveAlone mid new size schema before indexes come rows (rows ++ come ∷ []) after) (IsRowRefused indexes come rows)
+          → MatchResult r (λ done. HaveAlone old new size schema before indexes come rows (rows ++ come ∷ []) after) (IsRowRefused indexes come rows)
+      by (Ok done) is = record {
+        alone = is.alone;
+        now = record {
+          have = is.now.have;
+          header = keeps_then old mid new left.header is.now.header;
+          longer = (let a = left.longer in let b = is.now.longer in omega (arith, a, b));
+        };
+      }
+      by (Err fault) why = why
+
+  pub moves_stop : (fault : Fault) (result : Result ⊤ Fault) → IsErrAnd result (λ e. e ≡ fault) → TakesFromIndexes old mid size indexes (gone ∷ []) (Err fault) → MovesRowInIndexes old mid size indexes gone come result
+  moves_stop fault (Ok done) same takes = absurd same
+  moves_stop fault (Err e) same takes = λ rows apart next schema before after sized is_root have.
+      inl (subst IsOutsideOrFull (sym same) (takes rows apart schema before after sized is_root have))

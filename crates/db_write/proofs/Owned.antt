@@ -1,5 +1,5 @@
 -- A table's trees among all: that of its rows becomes one of other rows, and those of its indexes follow.
-use Rattle.std.proofs.Common.{◌≡◌, refl, sym, subst, ◌&&◌, ℕ, Bool, true, false, List, [], ◌∷◌, ◌++◌, length, map, arith}
+use Rattle.std.proofs.Common.{◌≡◌, refl, sym, subst, ◌&&◌, ℕ, Bool, true, false, List, [], ◌∷◌, ◌++◌, map, arith}
 use Rattle.std.specs.List.{list_all}
 use Rattle.std.specs.Ordering.{int_cmp}
 use Rattle.sqlval.specs.Lists.{is_rising}
@@ -10,7 +10,7 @@ use Rattle.pages.specs.Map.{PageMap}
 use Rattle.tree_page.specs.Cells.{Pairwise}
 use Rattle.tree_table.specs.Calls.{BecomesRows, Stands}
 use Rattle.db_layout.specs.Layout.{AreShared, OfEntries, Owner}
-use Rattle.catalog.specs.Listed.{with_rows}
+use Rattle.catalog.specs.Listed.{shape_of, with_rows}
 use Rattle.catalog.specs.Rows.{are_rows, is_row}
 use Rattle.catalog.specs.declared.tables.Index.{Index}
 use Rattle.catalog.specs.declared.tables.Table.{Table}
@@ -36,7 +36,7 @@ pub record RowsStand (map : PageMap) (size : ℕ) (schema : Owner) (before : Lis
   pub used : List ℕ
   pub free : List ℕ
   pub stands : Stands map size table.root entries used free
-  pub each : Pairwise (IsRow (length table.columns)) entries rows
+  pub each : Pairwise (IsRow (shape_of table)) entries rows
   pub others : List Owner
   pub indexes : Pairwise (IsEntriesTree rows) table.indexes others
   pub shared : AreShared map size (schema ∷ before ++ (rows_tree table.root entries used ∷ (others ++ after))) free
@@ -65,7 +65,7 @@ rows_among map size schema before table rows after among sized is_root = by amon
 
 -- as a query reads them
 pub has_rows : (map : PageMap) (size : ℕ) (schema : Owner) (before : List Owner) (table : Table) (rows : List TableRow) (after : List Owner) → RowsStand map size schema before table rows after
-    → HasRows map size table.root (length table.columns) rows
+    → HasRows map size table.root (shape_of table) rows
 has_rows map size schema before table rows after s = record { entries = s.entries; used = s.used; tree = s.stands.tree; each = s.each }
 
 module _ (old mid : PageMap) (size : ℕ) (schema : Owner) (before : List Owner) (table : Table) (rows : List TableRow) (after : List Owner) (s : RowsStand old size schema before table rows after)
@@ -84,7 +84,7 @@ module _ (old mid : PageMap) (size : ℕ) (schema : Owner) (before : List Owner)
   }
 
   -- and once they have the entries of other rows, the table has these
-  pub table_holds : (new : PageMap) (next : List TableRow) → Pairwise (IsRow (length table.columns)) entries next
+  pub table_holds : (new : PageMap) (next : List TableRow) → Pairwise (IsRow (shape_of table)) entries next
       → HaveNow mid new size schema (before ++ rows_tree table.root entries now.now_used ∷ []) table.indexes next after → HoldsNow old new size schema before table next after
   table_holds new next each have = record {
     among = record {
@@ -112,3 +112,9 @@ same_entries map size schema before indexes rows next after same have = record {
     all [] (owner ∷ mine) each = absurd each
     all (index ∷ indexes) [] each = absurd each
     all (index ∷ indexes) (owner ∷ mine) each = (one index owner each.0, all indexes mine each.1)
+
+-- and so they are where they stand now
+pub same_now : (old new : PageMap) (size : ℕ) (schema : Owner) (before : List Owner) (indexes : List Index) (rows next : List TableRow) (after : List Owner) → ((columns : Columns) → entries_of_rows columns rows ≡ entries_of_rows columns next)
+    → HaveNow old new size schema before indexes rows after → HaveNow old new size schema before indexes next after
+same_now old new size schema before indexes rows next after same now =
+    record { have = same_entries new size schema before indexes rows next after same now.have; header = now.header; longer = now.longer }

@@ -1,6 +1,7 @@
 -- What SET leaves of a table's rows: those that aren't meant stay, and what the others become comes.
 use Rattle.std.proofs.Common.{◌≡◌, refl, sym, ap, subst, ◌∙◌, ℕ, ℤ, Bool, true, false, cond, not, filter, List, [], ◌∷◌, map, Option, Some, None, if◌then◌else◌, Ok, Err}
 use Rattle.sqlval.specs.Refusals.{Answer, Refusal, ◌then◌, all_answers}
+use Rattle.catalog.specs.Listed.{own_column}
 use Rattle.catalog.specs.declared.tables.Table.{Table}
 use Rattle.query_terms.specs.Terms.{Term}
 use Rattle.row_scan.specs.Rows.{TableRow}
@@ -9,7 +10,7 @@ use Rattle.row_change.specs.Choosing.{is_chosen, tested}
 use Rattle.row_change.specs.Choosing.{chosen_or_all}
 use Rattle.row_change.specs.Setting.{row_set, rows_changed, rows_meant_set, rows_set, rows_set_each, rows_turned}
 use Rattle.index_entries.specs.Replacing.{rowids}
-use Rattle.row_change.proofs.Replaced.{made, set_parts}
+use Rattle.row_change.proofs.Replaced.{made, set_keeps}
 use Rattle.row_change.proofs.SetTrees.{changed_known, meant_by}
 use Rattle.db_write.proofs.Shuffling.{Shuffles, no_rows, one_comes, one_stays}
 
@@ -78,10 +79,10 @@ module _ (table : Table) (sets : List (ℕ × Term)) (c : Option Term) where
 
 -- ---- rowids
 
-module _ (table : Table) (sets : List (ℕ × Term)) where
-  -- a row that is set keeps its rowid
+module _ (table : Table) (sets : List (ℕ × Term)) (bare : own_column table ≡ None) where
+  -- a row that is set keeps its rowid, where no column holds that
   row_kept : (row now : TableRow) → row_set table sets row ≡ Ok now → row.0 ≡ now.0
-  row_kept row now e = sym (set_parts table sets row now e).0
+  row_kept row now e = sym (set_keeps table sets bare row now e)
 
   all_kept : (rows come : List TableRow) → all_answers (map (row_set table sets) rows) ≡ Ok come → rowids rows ≡ rowids come
   all_kept [] come e = ap rowids (same_rows [] come e)
@@ -89,10 +90,9 @@ module _ (table : Table) (sets : List (ℕ × Term)) where
       let p = parts_of (row_set table sets row) (all_answers (map (row_set table sets) rows)) come e in
       ap (λ (n : ℤ). n ∷ rowids rows) (row_kept row p.row p.first_is) ∙ ap (λ (ns : List ℤ). p.row.0 ∷ ns) (all_kept rows p.more p.more_is) ∙ ap rowids p.are
 
--- those that are meant keep their rowids
-pub rowids_kept : (table : Table) (sets : List (ℕ × Term)) (c : Option Term) (rows come : List TableRow) → rows_changed table sets c (map as_source rows) ≡ Ok come
-    → rowids (filter (meant_by c) rows) ≡ rowids come
-rowids_kept table sets c rows come e = all_kept table sets (filter (meant_by c) rows) come (changed_known table sets c rows come e).0
+  -- those that are meant keep their rowids
+  pub rowids_kept : (c : Option Term) (rows come : List TableRow) → rows_changed table sets c (map as_source rows) ≡ Ok come → rowids (filter (meant_by c) rows) ≡ rowids come
+  rowids_kept c rows come e = all_kept (filter (meant_by c) rows) come (changed_known table sets c rows come e).0
 
 -- ---- the rows that are meant
 

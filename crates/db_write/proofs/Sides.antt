@@ -14,10 +14,10 @@ use Rattle.db_layout.specs.Layout.{AreShared, Owner}
 use Rattle.catalog.specs.declared.tables.Index.{Index}
 use Rattle.row_scan.specs.Rows.{TableRow}
 use Rattle.index_entries.specs.Entries.{Columns, collations, entries_of_rows}
-use Rattle.index_entries.specs.Keeping.{AddsEntries, TakesEntries, Turns}
+use Rattle.index_entries.specs.Keeping.{TakesEntries, Turns}
 use Rattle.index_entries.specs.Replacing.{ReplacesEntries}
 use Rattle.db_layout.specs.Trees.{IsEntriesTree, columns_of}
-use Rattle.db_write.specs.Turning.{AddsToIndexes, AreEntriesStorable, AreLeft, CanBeIndexed, ClearsIndexes, FreesIndexes, HaveEntries, HaveNow, ReplacesInIndexes, TakesFromIndexes, TurnIndexes}
+use Rattle.db_write.specs.Turning.{AreEntriesStorable, AreLeft, CanBeIndexed, ClearsIndexes, FreesIndexes, HaveEntries, HaveNow, ReplacesInIndexes, TakesFromIndexes, TurnIndexes}
 use Rattle.db_write.proofs.Among.{entries_stand, entries_tree, is_entries_tree, keeps_all, keeps_then, one_gone, one_replaced, regrouped}
 
 -- ---- one index among others
@@ -112,34 +112,6 @@ widened : (old new : PageMap) (size : ℕ) (indexes : List Index) (from to : Lis
 widened old new size indexes from to Why Wide (Ok done) wider turns = turns
 widened old new size indexes from to Why Wide (Err f) wider turns = λ schema before after sized is_root have. wider f (turns schema before after sized is_root have)
 
--- ---- rows that come
-
-abbrev IsOneRefused : Columns → List TableRow → Fault → Type 0
-IsOneRefused columns added fault = IsOutsideOrFull fault ⊎ ((fault ≡ TooLong) × (CanBeIndexed columns added → ⊥))
-
-abbrev IsAddRefused : List Index → List TableRow → Fault → Type 0
-IsAddRefused indexes added fault = IsOutsideOrFull fault ⊎ ((fault ≡ TooLong) × (AreEntriesStorable indexes added → ⊥))
-
-pub adds_none : (pages : PageMap) (size : ℕ) (added : List TableRow) → AddsToIndexes pages pages size [] added (Ok tt)
-adds_none pages size added rows apart = turn_none pages size rows (rows ++ added) (IsAddRefused [] added)
-
-module _ (old mid : PageMap) (size : ℕ) (index : Index) (rest : List Index) (added : List TableRow) where
-  pub adds_more : (new : PageMap) (result : Result ⊤ Fault) → AddsEntries old mid size index.root (columns_of index) added (Ok tt) → AddsToIndexes mid new size rest added result → AddsToIndexes old new size (index ∷ rest) added result
-  adds_more new result first next rows apart =
-      widened old new size (index ∷ rest) rows (rows ++ added) (IsAddRefused rest added) (IsAddRefused (index ∷ rest) added) result wider
-      (turn_more old mid size index rest rows (rows ++ added) (IsOneRefused (columns_of index) added) new (IsAddRefused rest added) result (first rows apart) (next rows apart))
-    where
-      wider : (f : Fault) → IsAddRefused rest added f → IsAddRefused (index ∷ rest) added f
-      wider f (inl outside) = inl outside
-      wider f (inr long) = inr (long.0, λ all. long.1 all.1)
-
-  pub adds_stop : (fault : Fault) (result : Result ⊤ Fault) → IsErrAnd result (λ e. e ≡ fault) → AddsEntries old mid size index.root (columns_of index) added (Err fault) → AddsToIndexes old mid size (index ∷ rest) added result
-  adds_stop fault result same first rows apart = turn_stop old mid size index rest rows (rows ++ added) (IsOneRefused (columns_of index) added) (IsAddRefused (index ∷ rest) added) fault result same (first rows apart) wider
-    where
-      wider : IsOneRefused (columns_of index) added fault → IsAddRefused (index ∷ rest) added fault
-      wider (inl outside) = inl outside
-      wider (inr long) = inr (long.0, λ all. long.1 all.0)
-
 -- ---- rows that go
 
 pub takes_none : (pages : PageMap) (size : ℕ) (gone : List TableRow) → TakesFromIndexes pages pages size [] gone (Ok tt)
@@ -155,26 +127,32 @@ module _ (old mid : PageMap) (size : ℕ) (index : Index) (rest : List Index) (g
 
 -- ---- rows that take others' places
 
+abbrev IsOneRefused : Columns → List TableRow → Fault → Type 0
+IsOneRefused columns come fault = IsOutsideOrFull fault ⊎ ((fault ≡ TooLong) × (CanBeIndexed columns come → ⊥))
+
+abbrev IsReplaceRefused : List Index → List TableRow → Fault → Type 0
+IsReplaceRefused indexes come fault = IsOutsideOrFull fault ⊎ ((fault ≡ TooLong) × (AreEntriesStorable indexes come → ⊥))
+
 pub replaces_none : (pages : PageMap) (size : ℕ) (gone come : List TableRow) → ReplacesInIndexes pages pages size [] gone come (Ok tt)
-replaces_none pages size gone come rows apart same = turn_none pages size (rows ++ gone) (rows ++ come) (IsAddRefused [] come)
+replaces_none pages size gone come rows apart same = turn_none pages size (rows ++ gone) (rows ++ come) (IsReplaceRefused [] come)
 
 module _ (old mid : PageMap) (size : ℕ) (index : Index) (rest : List Index) (gone come : List TableRow) where
   pub replaces_more : (new : PageMap) (result : Result ⊤ Fault) → ReplacesEntries old mid size index.root (columns_of index) gone come (Ok tt) → ReplacesInIndexes mid new size rest gone come result
       → ReplacesInIndexes old new size (index ∷ rest) gone come result
   replaces_more new result first next rows apart same =
-      widened old new size (index ∷ rest) (rows ++ gone) (rows ++ come) (IsAddRefused rest come) (IsAddRefused (index ∷ rest) come) result wider
-      (turn_more old mid size index rest (rows ++ gone) (rows ++ come) (IsOneRefused (columns_of index) come) new (IsAddRefused rest come) result (first rows apart same) (next rows apart same))
+      widened old new size (index ∷ rest) (rows ++ gone) (rows ++ come) (IsReplaceRefused rest come) (IsReplaceRefused (index ∷ rest) come) result wider
+      (turn_more old mid size index rest (rows ++ gone) (rows ++ come) (IsOneRefused (columns_of index) come) new (IsReplaceRefused rest come) result (first rows apart same) (next rows apart same))
     where
-      wider : (f : Fault) → IsAddRefused rest come f → IsAddRefused (index ∷ rest) come f
+      wider : (f : Fault) → IsReplaceRefused rest come f → IsReplaceRefused (index ∷ rest) come f
       wider f (inl outside) = inl outside
       wider f (inr long) = inr (long.0, λ all. long.1 all.1)
 
   pub replaces_stop : (fault : Fault) (result : Result ⊤ Fault) → IsErrAnd result (λ e. e ≡ fault) → ReplacesEntries old mid size index.root (columns_of index) gone come (Err fault)
       → ReplacesInIndexes old mid size (index ∷ rest) gone come result
   replaces_stop fault result same first rows apart ids =
-      turn_stop old mid size index rest (rows ++ gone) (rows ++ come) (IsOneRefused (columns_of index) come) (IsAddRefused (index ∷ rest) come) fault result same (first rows apart ids) wider
+      turn_stop old mid size index rest (rows ++ gone) (rows ++ come) (IsOneRefused (columns_of index) come) (IsReplaceRefused (index ∷ rest) come) fault result same (first rows apart ids) wider
     where
-      wider : IsOneRefused (columns_of index) come fault → IsAddRefused (index ∷ rest) come fault
+      wider : IsOneRefused (columns_of index) come fault → IsReplaceRefused (index ∷ rest) come fault
       wider (inl outside) = inl outside
       wider (inr long) = inr (long.0, λ all. long.1 all.0)
 

@@ -1,7 +1,9 @@
 -- What setting rows one after another comes to, each with its entries.
-use Rattle.std.proofs.Common.{◌≡◌, ◌⊎◌, inl, inr, refl, sym, ap, subst, ◌∙◌, ◌≤◌, ◌<◌, ◌-◌, ℕ, Bool, true, false, cond, filter, List, [], ◌∷◌, ◌++◌, length, map, take, drop, slice_index_or, Option, Ok, Err, arith}
+use Rattle.std.proofs.Common.{◌≡◌, ◌⊎◌, inl, inr, refl, sym, ap, subst, ◌∙◌, ◌≤◌, ◌<◌, ◌-◌, ℕ, Bool, true, false, cond, filter, List, [], ◌∷◌, ◌++◌, length, map, take, drop, slice_index_or, Option, None, Ok, Err, arith}
 use Rattle.std.specs.Prelude.{Result, IsErrAnd, MatchResult, ⊤}
+use Rattle.std.specs.FinMap.Entries.{find, put}
 use Rattle.std.specs.List.{AllByRecursion}
+use Rattle.std.specs.Ordering.{int_cmp}
 use Rattle.sqlval.specs.PageSizes.{IsPageSize}
 use Rattle.sqlval.specs.Refusals.{Answer, Refusal, ◌then◌, refusal_of}
 use Rattle.sqlval.specs.declared.fault.Fault.{Fault}
@@ -19,37 +21,34 @@ use Rattle.query_terms.specs.Values.{Row}
 use Rattle.row_scan.specs.Rows.{TableRow}
 use Rattle.row_scan.specs.Sources.{as_source}
 use Rattle.row_change.specs.Choosing.{chosen_or_all}
-use Rattle.row_change.specs.Demands.{admitted}
+use Rattle.row_change.specs.Demands.{admitted, with_own_rowid}
 use Rattle.row_change.specs.Meaning.{AreEnough, as_row}
 use Rattle.row_change.specs.NewRows.{row_of}
 use Rattle.row_change.specs.Setting.{row_set, rows_meant, rows_set, rows_turned}
-use Rattle.row_change.specs.Updating.{IsSetIn, SetsRow}
-use Rattle.row_change.proofs.Replaced.{set_parts}
+use Rattle.row_change.specs.Updating.{IsSetIn, SetsRow, row_moved}
 use Rattle.row_change.proofs.Rising.{fit_rows_rise}
 use Rattle.row_change.proofs.SetTrees.{as_sources, meant_as_chosen, meant_by}
-use Rattle.row_change.proofs.Updates.{turned_one}
 use Rattle.index_entries.specs.Entries.{AreApart, IsApart}
 use Rattle.index_entries.specs.Keeping.{row_in}
 use Rattle.db_layout.specs.Trees.{AreAmong}
 use Rattle.db_write.specs.Changing.{AreUpdated, IsRefusedUpdate, UpdatesInTrees}
 use Rattle.db_write.specs.OneRow.{AreTurned, IsOneOf, IsRefusedAs, IsTurned, TurnsFrom, TurnsRow, row_turned}
 use Rattle.db_write.specs.Reading.{LoadsEnough}
-use Rattle.db_write.specs.Turning.{HaveAlone, IsRowRefused, ReplacesRowInIndexes}
+use Rattle.db_write.specs.Turning.{HaveAlone, HaveEntries, IsRowRefused, MovesRowInIndexes}
 use Rattle.db_write.proofs.Among.{keeps_all, rows_tree}
-use Rattle.db_write.proofs.Clashing.{clash_refused, passes}
+use Rattle.db_write.proofs.Clashing.{alone_same, clash_refused, in_turn, passes, where_alone}
 use Rattle.db_write.proofs.InsertedRows.{since_before}
 use Rattle.db_write.proofs.Looping.{first_of, none_left}
-use Rattle.db_write.proofs.Owned.{RowsStand, fit_apart, indexes_stand, rows_among, table_holds}
+use Rattle.db_write.proofs.Owned.{RowsStand, fit_apart, indexes_stand, rows_among, same_entries, same_now, table_holds}
+use Rattle.db_write.proofs.PutRows.{one_shuffles, others_left, own_free, put_shuffles}
 use Rattle.db_write.proofs.SetShuffles.{meant_are}
-use Rattle.db_write.proofs.Widths.{one_storable, wide_among}
+use Rattle.db_write.proofs.Shuffling.{Shuffles, no_rows, one_comes, one_stays, shuffled_apart, shuffled_entries}
+use Rattle.db_write.proofs.Widths.{some_storable, wide_among}
 
 -- ---- one row
 
 abbrev not_given : Refusal → Answer TableRow
 not_given r = Err r
-
-abbrev Admits : Table → List TableRow → Answer TableRow → Answer TableRow
-Admits table others answer = answer then λ now. admitted table others now
 
 -- a source's row is the table's
 same_row : (source : Row) (row gone : TableRow) → source ≡ as_source row → gone ≡ as_row source → gone ≡ row
@@ -68,9 +67,9 @@ module _ (old : PageMap) (size : ℕ) (table : Table) (sets : List (ℕ × Term)
       let s = rows_among old size schema before table (front ++ row ∷ back) after among sized is_root in
       subst (λ (f : Fault). IsRefusedAs (row_turned table sets row (front ++ back)) table f) (sym same) (by front row back (sets_so front row back s.entries s.used s.free s.stands s.each is)))
     where
-      by : (front : List TableRow) (row : TableRow) (back : List TableRow) → IsOutsideOrFull fault ⊎ (row_set table sets row ≡ Err (refusal_of fault)) → IsRefusedAs (row_turned table sets row (front ++ back)) table fault
+      by : (front : List TableRow) (row : TableRow) (back : List TableRow) → IsOutsideOrFull fault ⊎ (row_moved table sets (front ++ back) row ≡ Err (refusal_of fault)) → IsRefusedAs (row_turned table sets row (front ++ back)) table fault
       by front row back (inl outside) = inl outside
-      by front row back (inr is) = inr (inl (ap (Admits table (front ++ back)) is))
+      by front row back (inr is) = inr (inl (in_turn table (front ++ back) (row_set table sets row) ∙ ap (λ (a : Answer TableRow). a then where_alone table (front ++ back)) is))
 
   -- it is set, and its entries are next
   module _ (mid new : PageMap) (gone come : stored.TableRow) (copied : row_of gone ≡ as_row source) (sets_so : SetsRow old mid size table.root table sets source (Ok come)) where
@@ -79,39 +78,66 @@ module _ (old : PageMap) (size : ℕ) (table : Table) (sets : List (ℕ × Term)
       set : IsSetIn old mid size table.root table sets front row back s.used s.free (row_of come)
       set = sets_so front row back s.entries s.used s.free s.stands s.each is
 
-      fits : are_rows (with_rows table (front ++ row_of come ∷ back)) ≡ true
+      abbrev others : List TableRow
+      others = front ++ back
+
+      abbrev rows_now : List TableRow
+      rows_now = put int_cmp come.rowid come.values.items others
+
+      fits : are_rows (with_rows table rows_now) ≡ true
       fits = set.fit fit
+
+      -- in another order they were the others and then the row, and they are the others and then what it became
+      stood : Shuffles others (row ∷ []) (front ++ row ∷ back)
+      stood = one_shuffles front row back
+
+      came : Shuffles others (row_of come ∷ []) rows_now
+      came = put_shuffles (row_of come) others (own_free (row_set table sets row) others (row_of come) set.answer)
+
+      stood_apart : AreApart (front ++ row ∷ back)
+      stood_apart = fit_apart table (front ++ row ∷ back) fit
+
+      come_apart : AreApart rows_now
+      come_apart = fit_apart table rows_now fits
 
       abbrev first : List Owner
       first = before ++ rows_tree table.root set.entries set.becomes.now_used ∷ []
 
-      kept : row.0 ≡ (row_of come).0
-      kept = sym (set_parts table sets row (row_of come) set.answer).0
+      stand : HaveEntries mid size schema first table.indexes (others ++ row ∷ []) after
+      stand =
+          same_entries mid size schema first table.indexes (front ++ row ∷ back) (others ++ row ∷ []) after (λ columns. shuffled_entries columns stood stood_apart)
+          (indexes_stand old mid size schema before table (front ++ row ∷ back) after s set.entries set.becomes)
 
-      replaced : (result : Result ⊤ Fault) → ReplacesRowInIndexes mid new size table.indexes (row_in gone) (row_in come) result
-          → MatchResult result (λ done. HaveAlone mid new size schema first table.indexes (row_of come) (front ++ back) (front ++ row_of come ∷ back) after) (IsRowRefused table.indexes (row_of come) (front ++ back))
-      replaced result replaces =
-          subst (λ (r : TableRow). ReplacesRowInIndexes mid new size table.indexes r (row_of come) result) (same_row source row (row_of gone) is copied) replaces
-          front back (fit_apart table (front ++ row ∷ back) fit) kept schema first after sized is_root (indexes_stand old mid size schema before table (front ++ row ∷ back) after s set.entries set.becomes)
+      moved : (result : Result ⊤ Fault) → MovesRowInIndexes mid new size table.indexes (row_in gone) (row_in come) result
+          → MatchResult result (λ done. HaveAlone mid new size schema first table.indexes (row_of come) others (others ++ row_of come ∷ []) after) (IsRowRefused table.indexes (row_of come) others)
+      moved result moves =
+          subst (λ (r : TableRow). MovesRowInIndexes mid new size table.indexes r (row_of come) result) (same_row source row (row_of gone) is copied) moves
+          others (shuffled_apart stood stood_apart) (shuffled_apart came come_apart) schema first after sized is_root stand
+
+      answered : (a : Answer TableRow) → where_alone table others (row_of come) ≡ a → row_turned table sets row others ≡ a
+      answered a so = in_turn table others (row_set table sets row) ∙ (ap (λ (b : Answer TableRow). b then where_alone table others) set.answer ∙ so)
 
       turned : (result : Result ⊤ Fault)
-          → MatchResult result (λ done. HaveAlone mid new size schema first table.indexes (row_of come) (front ++ back) (front ++ row_of come ∷ back) after) (IsRowRefused table.indexes (row_of come) (front ++ back))
-          → MatchResult result (λ done. IsTurned old new size schema before table sets front row back after) (λ fault. IsRefusedAs (row_turned table sets row (front ++ back)) table fault)
+          → MatchResult result (λ done. HaveAlone mid new size schema first table.indexes (row_of come) others (others ++ row_of come ∷ []) after) (IsRowRefused table.indexes (row_of come) others)
+          → MatchResult result (λ done. IsTurned old new size schema before table sets front row back after) (λ fault. IsRefusedAs (row_turned table sets row others) table fault)
       turned (Ok done) have = record {
         now = row_of come;
-        answer = ap (Admits table (front ++ back)) set.answer ∙ passes table (row_of come) (front ++ back) have.alone;
-        hold = record { holds = table_holds old mid size schema before table (front ++ row ∷ back) after s set.entries set.becomes new (front ++ row_of come ∷ back) set.each have.now; fit = fits };
+        answer = answered (Ok (row_of come)) (passes table (row_of come) others have.alone);
+        hold = record {
+          holds = table_holds old mid size schema before table (front ++ row ∷ back) after s set.entries set.becomes new rows_now set.each
+              (same_now mid new size schema first table.indexes (others ++ row_of come ∷ []) rows_now after (λ columns. sym (shuffled_entries columns came come_apart)) have.now);
+          fit = fits;
+        };
       }
       turned (Err fault) (inl outside) = inl outside
       turned (Err fault) (inr (inl clash)) =
-          inr (inl (ap (Admits table (front ++ back)) set.answer
-          ∙ (clash_refused table (row_of come) (front ++ back) clash.1 ∙ ap (λ (f : Fault). not_given (refusal_of f)) (sym clash.0))))
-      turned (Err fault) (inr (inr long)) = inr (inr (long.0, wide_among table (front ++ row_of come ∷ back) fits (λ all. long.1 (one_storable table.indexes front (row_of come) back all))))
+          inr (inl (answered (Err (refusal_of fault)) (clash_refused table (row_of come) others clash.1 ∙ ap (λ (f : Fault). not_given (refusal_of f)) (sym clash.0))))
+      turned (Err fault) (inr (inr long)) = inr (inr (long.0, wide_among table rows_now fits (λ all. long.1 (some_storable table.indexes came all))))
 
-    pub row_turns : (result : Result ⊤ Fault) → ReplacesRowInIndexes mid new size table.indexes (row_in gone) (row_in come) result → TurnsRow old new size table sets source result
-    row_turns result replaces schema before after front row back sized is_root among fit is =
+    pub row_turns : (result : Result ⊤ Fault) → MovesRowInIndexes mid new size table.indexes (row_in gone) (row_in come) result → TurnsRow old new size table sets source result
+    row_turns result moves schema before after front row back sized is_root among fit is =
         let s = rows_among old size schema before table (front ++ row ∷ back) after among sized is_root in
-        turned schema before after front row back sized is_root s fit is result (replaced schema before after front row back sized is_root s fit is result replaces)
+        turned schema before after front row back sized is_root s fit is result (moved schema before after front row back sized is_root s fit is result moves)
 
 -- ---- a row among others
 
@@ -125,28 +151,44 @@ split_at row [] one = absurd one
 split_at row (other ∷ rows) (inl is) = record { front = []; back = rows; are = ap (λ (r : TableRow). r ∷ rows) is }
 split_at row (other ∷ rows) (inr later) = (let s = split_at row rows later in record { front = other ∷ s.front; back = s.back; are = ap (λ (rs : List TableRow). other ∷ rs) s.are })
 
--- another row stands there still
-stays_one : (other : TableRow) (front : List TableRow) (row now : TableRow) (back : List TableRow) → (row.0 ≡ other.0 → ⊥) → IsOneOf other (front ++ row ∷ back) → IsOneOf other (front ++ now ∷ back)
-stays_one other [] row now back apart (inl is) = absurd (apart (ap (λ (r : TableRow). r.0) (sym is)))
-stays_one other [] row now back apart (inr later) = inr later
-stays_one other (next ∷ front) row now back apart (inl is) = inl is
-stays_one other (next ∷ front) row now back apart (inr later) = inr (stays_one other front row now back apart later)
+-- another row is one of the others
+one_beside : (other : TableRow) (front : List TableRow) (row : TableRow) (back : List TableRow) → (row.0 ≡ other.0 → ⊥) → IsOneOf other (front ++ row ∷ back) → IsOneOf other (front ++ back)
+one_beside other [] row back apart (inl is) = absurd (apart (ap (λ (r : TableRow). r.0) (sym is)))
+one_beside other [] row back apart (inr later) = later
+one_beside other (next ∷ front) row back apart (inl is) = inl is
+one_beside other (next ∷ front) row back apart (inr later) = inr (one_beside other front row back apart later)
 
-stay_all : (olds : List TableRow) (front : List TableRow) (row now : TableRow) (back : List TableRow) → IsApart row olds → AllByRecursion (λ r. IsOneOf r (front ++ row ∷ back)) olds
-    → AllByRecursion (λ r. IsOneOf r (front ++ now ∷ back)) olds
-stay_all [] front row now back apart all = tt
-stay_all (other ∷ olds) front row now back apart all = (stays_one other front row now back apart.0 all.0, stay_all olds front row now back apart.1 all.1)
+-- and stays one where a row comes
+one_still : (other : TableRow) {stay come now : List TableRow} → Shuffles stay come now → IsOneOf other stay → IsOneOf other now
+one_still other no_rows one = absurd one
+one_still other (one_stays row rest) (inl is) = inl is
+one_still other (one_stays row rest) (inr later) = inr (one_still other rest later)
+one_still other (one_comes row rest) one = inr (one_still other rest one)
+
+stay_all : (olds : List TableRow) (front : List TableRow) (row : TableRow) (back come now : List TableRow) → Shuffles (front ++ back) come now → IsApart row olds → AllByRecursion (λ r. IsOneOf r (front ++ row ∷ back)) olds
+    → AllByRecursion (λ r. IsOneOf r now) olds
+stay_all [] front row back come now shuffle apart all = tt
+stay_all (other ∷ olds) front row back come now shuffle apart all =
+    (one_still other shuffle (one_beside other front row back apart.0 all.0), stay_all olds front row back come now shuffle apart.1 all.1)
+
+-- none of the others has the rowid of what a row became
+turned_free : (table : Table) (sets : List (ℕ × Term)) (row : TableRow) (others : List TableRow) (now : TableRow) → row_turned table sets row others ≡ Ok now → find int_cmp now.0 others ≡ None
+turned_free table sets row others now answer =
+    own_free (row_set table sets row) others now (alone_same table others (row_set table sets row then λ r. with_own_rowid others r) now (sym (in_turn table others (row_set table sets row)) ∙ answer))
 
 -- ---- rows one after another
 
-abbrev Turned : Table → List (ℕ × Term) → List TableRow → List TableRow → List TableRow → TableRow → Answer (List TableRow)
-Turned table sets front back olds now = rows_turned table sets (front ++ now ∷ back) olds
+abbrev Turned : Table → List (ℕ × Term) → List TableRow → List TableRow → TableRow → Answer (List TableRow)
+Turned table sets others olds now = rows_turned table sets (put int_cmp now.0 now.1 others) olds
 
 one_and_more : (table : Table) (sets : List (ℕ × Term)) (front : List TableRow) (row : TableRow) (back olds : List TableRow) → are_rows (with_rows table (front ++ row ∷ back)) ≡ true
-    → rows_turned table sets (front ++ row ∷ back) (row ∷ olds) ≡ (row_turned table sets row (front ++ back) then Turned table sets front back olds)
-one_and_more table sets front row back olds fit = turned_one table sets front row back olds (fit_rows_rise (with_rows table (front ++ row ∷ back)) fit) ∙ by (row_set table sets row)
+    → rows_turned table sets (front ++ row ∷ back) (row ∷ olds) ≡ (row_turned table sets row (front ++ back) then Turned table sets (front ++ back) olds)
+one_and_more table sets front row back olds fit =
+    ap (λ (others : List TableRow). row_set table sets row then λ now. admitted table others now then Turned table sets others olds)
+    (others_left front row back (fit_rows_rise (with_rows table (front ++ row ∷ back)) fit))
+    ∙ by (row_set table sets row)
   where
-    by : (a : Answer TableRow) → (a then λ now. admitted table (front ++ back) now then Turned table sets front back olds) ≡ ((a then λ now. admitted table (front ++ back) now) then Turned table sets front back olds)
+    by : (a : Answer TableRow) → (a then λ now. admitted table (front ++ back) now then Turned table sets (front ++ back) olds) ≡ ((a then λ now. admitted table (front ++ back) now) then Turned table sets (front ++ back) olds)
     by (Ok now) = refl
     by (Err r) = refl
 
@@ -175,15 +217,16 @@ module _ (old mid : PageMap) (size : ℕ) (table : Table) (sets : List (ℕ × T
           → AllByRecursion (λ r. IsOneOf r (front ++ row ∷ back)) olds → Turns old new size schema before table sets (front ++ row ∷ back) (row ∷ olds) after result
       here front back among fit one =
           let now = first schema before after front row back sized is_root among fit (head_is source (as_source row) more (map as_source olds) are) in
-          let same = one_and_more table sets front row back olds fit ∙ ap (λ (a : Answer TableRow). a then Turned table sets front back olds) now.answer in
-          on now same result (next schema before after (front ++ now.now ∷ back) olds sized is_root now.hold.holds.among now.hold.fit (tail_is source (as_source row) more (map as_source olds) are)
-          (stay_all olds front row now.now back apart.0 one) apart.1)
+          let same = one_and_more table sets front row back olds fit ∙ ap (λ (a : Answer TableRow). a then Turned table sets (front ++ back) olds) now.answer in
+          on now same result (next schema before after (put int_cmp now.now.0 now.now.1 (front ++ back)) olds sized is_root now.hold.holds.among now.hold.fit (tail_is source (as_source row) more (map as_source olds) are)
+          (stay_all olds front row back (now.now ∷ []) (put int_cmp now.now.0 now.now.1 (front ++ back)) (put_shuffles now.now (front ++ back) (turned_free table sets row (front ++ back) now.now now.answer)) apart.0 one)
+          apart.1)
         where
           on : (now : IsTurned old mid size schema before table sets front row back after)
-              → rows_turned table sets (front ++ row ∷ back) (row ∷ olds) ≡ rows_turned table sets (front ++ now.now ∷ back) olds
-              → (r : Result ⊤ Fault) → MatchResult r (λ done. AreTurned mid new size schema before table sets (front ++ now.now ∷ back) olds after) (λ fault. IsRefusedAs (rows_turned table sets (front ++ now.now ∷ back) olds) table fault)
+              → rows_turned table sets (front ++ row ∷ back) (row ∷ olds) ≡ rows_turned table sets (put int_cmp now.now.0 now.now.1 (front ++ back)) olds
+              → (r : Result ⊤ Fault) → MatchResult r (λ done. AreTurned mid new size schema before table sets (put int_cmp now.now.0 now.now.1 (front ++ back)) olds after) (λ fault. IsRefusedAs (rows_turned table sets (put int_cmp now.now.0 now.now.1 (front ++ back)) olds) table fault)
               → MatchResult r (λ done. AreTurned old new size schema before table sets (front ++ row ∷ back) (row ∷ olds) after) (λ fault. IsRefusedAs (rows_turned table sets (front ++ row ∷ back) (row ∷ olds)) table fault)
-          on now same (Ok done) they = record { now = they.now; answer = same ∙ they.answer; hold = since_before old mid new size schema before table (front ++ now.now ∷ back) they.now after now.hold they.hold }
+          on now same (Ok done) they = record { now = they.now; answer = same ∙ they.answer; hold = since_before old mid new size schema before table (put int_cmp now.now.0 now.now.1 (front ++ back)) they.now after now.hold they.hold }
           on now same (Err fault) (inl outside) = inl outside
           on now same (Err fault) (inr (inl is)) = inr (inl (same ∙ is))
           on now same (Err fault) (inr (inr wide)) = inr (inr wide)
@@ -204,7 +247,7 @@ module _ (old mid : PageMap) (size : ℕ) (table : Table) (sets : List (ℕ × T
           on : (front back : List TableRow) → are_rows (with_rows table (front ++ row ∷ back)) ≡ true → IsRefusedAs (row_turned table sets row (front ++ back)) table fault
               → IsRefusedAs (rows_turned table sets (front ++ row ∷ back) (row ∷ olds)) table fault
           on front back fit (inl outside) = inl outside
-          on front back fit (inr (inl is)) = inr (inl (one_and_more table sets front row back olds fit ∙ ap (λ (a : Answer TableRow). a then Turned table sets front back olds) is))
+          on front back fit (inr (inl is)) = inr (inl (one_and_more table sets front row back olds fit ∙ ap (λ (a : Answer TableRow). a then Turned table sets (front ++ back) olds) is))
           on front back fit (inr (inr wide)) = inr (inr wide)
 
           here : (front back : List TableRow) → AreAmong old size schema before table (front ++ row ∷ back) after → are_rows (with_rows table (front ++ row ∷ back)) ≡ true

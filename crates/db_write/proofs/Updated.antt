@@ -1,5 +1,5 @@
 -- What updating rows with their entries comes to.
-use Rattle.std.proofs.Common.{◌≡◌, ◌⊎◌, ◌∙◌, inl, inr, sym, ap, subst, ℕ, true, false, not, filter, List, [], ◌∷◌, ◌++◌, length, map, Option, Ok, Err, refl, arith}
+use Rattle.std.proofs.Common.{◌≡◌, ◌⊎◌, ◌∙◌, inl, inr, sym, ap, subst, ℕ, true, false, not, filter, List, [], ◌∷◌, ◌++◌, length, map, Option, None, Ok, Err, refl, arith}
 use Rattle.std.specs.Prelude.{Result, IsErrAnd, MatchResult, ⊤}
 use Rattle.std.specs.Global.{Vec}
 use Rattle.std.specs.List.{list_any}
@@ -11,7 +11,7 @@ use Rattle.sqlval.specs.declared.fault.Fault.TheVariants.{TooLong}
 use Rattle.pages.specs.Calls.{IsOutsideOrFull}
 use Rattle.pages.specs.Map.{PageMap}
 use Rattle.db_layout.specs.Layout.{Owner}
-use Rattle.catalog.specs.Listed.{with_rows}
+use Rattle.catalog.specs.Listed.{own_column, with_rows}
 use Rattle.catalog.specs.Rows.{are_rows}
 use Rattle.catalog.specs.declared.tables.Index.{Index}
 use Rattle.catalog.specs.declared.tables.Table.{Table}
@@ -19,32 +19,25 @@ use Rattle.catalog.specs.declared.tables.TableRow as stored
 use Rattle.query_terms.specs.Outcome.{IsRefusedBy}
 use Rattle.query_terms.specs.Terms.{Term}
 use Rattle.query_terms.specs.Values.{Row}
-use Rattle.record.specs.Writing.{AreStorable}
 use Rattle.row_scan.specs.Rows.{TableRow}
 use Rattle.row_change.specs.Agreement.{SetsAsEach, has_unique}
 use Rattle.row_change.specs.Choosing.{chosen_or_all}
 use Rattle.row_change.specs.Meaning.{AreEnough}
 use Rattle.row_change.specs.Updating.{AreSetIn, IsSetRefusal, SetsRows, TellsChanged}
 use Rattle.row_change.proofs.SetTrees.{meant_by}
-use Rattle.index_entries.specs.Entries.{AreApart, indexed}
+use Rattle.index_entries.specs.Entries.{AreApart}
 use Rattle.index_entries.specs.Keeping.{row_in}
 use Rattle.index_entries.specs.Replacing.{rowids}
 use Rattle.db_write.specs.Changing.{AreUpdated, IsRefusedUpdate, UpdatesInTrees}
-use Rattle.db_layout.specs.Trees.{columns_of}
 use Rattle.db_write.specs.Reading.{LoadsEnough}
 use Rattle.db_write.specs.Turning.{AreEntriesStorable, HaveEntries, HaveNow, ReplacesInIndexes}
 use Rattle.db_write.proofs.Among.{rows_tree}
 use Rattle.db_write.proofs.Needed.{MeansRows}
 use Rattle.db_write.proofs.Owned.{RowsStand, fit_apart, indexes_stand, rows_among, same_entries, table_holds}
 use Rattle.db_write.proofs.SetShuffles.{changed_shuffle, meant_are, meant_refused, rowids_kept}
-use Rattle.db_write.proofs.Shuffling.{Shuffles, all_come, parted, shuffled_apart, shuffled_entries}
+use Rattle.db_write.proofs.Shuffling.{Shuffles, parted, shuffled_apart, shuffled_entries}
 use Rattle.db_write.proofs.Sides.{no_index}
-use Rattle.db_write.proofs.Widths.{wide_among}
-
--- entries of all rows can be stored only if those of some can
-some_storable : {stay come now : List TableRow} (indexes : List Index) → Shuffles stay come now → AreEntriesStorable indexes now → AreEntriesStorable indexes come
-some_storable [] shuffle all = tt
-some_storable (index ∷ indexes) shuffle all = (all_come (λ row. AreStorable (indexed (columns_of index) row)) shuffle all.0, some_storable indexes shuffle all.1)
+use Rattle.db_write.proofs.Widths.{some_storable, wide_among}
 
 module _ (old mid : PageMap) (size : ℕ) (table : Table) (c : Option Term) (sets : List (ℕ × Term)) where
   -- no rows are read
@@ -64,24 +57,24 @@ module _ (old mid : PageMap) (size : ℕ) (table : Table) (c : Option Term) (set
         by rows (inl memory) = inl (inl (inl memory))
         by rows (inr e) = inr (inl (meant_refused table sets c rows (refusal_of fault) e))
 
-  -- without a UNIQUE index all rows are set at once
-  module _ (law : SetsAsEach) (plain : has_unique table ≡ false) (found : List Row) (loads : LoadsEnough old size table c (Ok found)) where
+  -- without a UNIQUE index and a column for the rowid all rows are set at once
+  module _ (law : SetsAsEach) (plain : has_unique table ≡ false) (bare : own_column table ≡ None) (found : List Row) (loads : LoadsEnough old size table c (Ok found)) where
     -- no row is set
     pub none_set : (fault : Fault) (result : Result ⊤ Fault) → IsErrAnd result (λ e. e ≡ fault) → SetsRows {X = ⊤} old mid size table.root table sets c found (Err fault) → UpdatesInTrees old mid size table c sets result
     none_set fault (Ok done) same sets_so = absurd same
     none_set fault (Err e) same sets_so = λ schema before after rows sized is_root among fit. (
         let s = rows_among old size schema before table rows after among sized is_root in
-        subst (λ (f : Fault). IsRefusedUpdate table c sets rows f) (sym same) (by rows fit (sets_so rows s.entries s.used s.free s.stands s.each (loads schema before after rows sized is_root among fit))))
+        subst (λ (f : Fault). IsRefusedUpdate table c sets rows f) (sym same) (by rows fit (sets_so rows s.entries s.used s.free bare s.stands s.each (loads schema before after rows sized is_root among fit))))
       where
         by : (rows : List TableRow) → are_rows (with_rows table rows) ≡ true → IsSetRefusal table sets c rows fault → IsRefusedUpdate table c sets rows fault
         by rows fit (inl outside) = inl outside
-        by rows fit (inr e) = inr (inl (law table sets c rows plain fit ∙ e))
+        by rows fit (inr e) = inr (inl (law table sets c rows plain bare fit ∙ e))
 
     -- rows are set; then the indexes follow
     module _ (sets_so : SetsRows {X = ⊤} old mid size table.root table sets c found (Ok tt)) (schema : Owner) (before after : List Owner) (rows : List TableRow) (s : RowsStand old size schema before table rows after)
         (enough : AreEnough c found rows) (fit : are_rows (with_rows table rows) ≡ true) where
       set : AreSetIn old mid size table.root table sets c rows s.used s.free
-      set = sets_so rows s.entries s.used s.free s.stands s.each enough
+      set = sets_so rows s.entries s.used s.free bare s.stands s.each enough
 
       fits : are_rows (with_rows table set.now) ≡ true
       fits = set.fit fit
@@ -95,17 +88,17 @@ module _ (old mid : PageMap) (size : ℕ) (table : Table) (c : Option Term) (set
       updated : (new : PageMap) → HaveNow mid new size schema Before table.indexes set.now after → AreUpdated old new size schema before table c sets rows after
       updated new have = record {
         now = set.now;
-        answer = law table sets c rows plain fit ∙ set.answer;
+        answer = law table sets c rows plain bare fit ∙ set.answer;
         hold = record { holds = table_holds old mid size schema before table rows after s set.entries set.becomes new set.now set.each have; fit = fits };
       }
 
     -- of a table without indexes
     pub bare_set : length table.indexes ≡ 0 → SetsRows {X = ⊤} old mid size table.root table sets c found (Ok tt) → UpdatesInTrees old mid size table c sets (Ok tt)
-    bare_set bare sets_so schema before after rows sized is_root among fit =
+    bare_set few sets_so schema before after rows sized is_root among fit =
         let s = rows_among old size schema before table rows after among sized is_root in
         let enough = loads schema before after rows sized is_root among fit in
         updated sets_so schema before after rows s enough fit mid
-        (no_index mid size schema _ table.indexes rows (set sets_so schema before after rows s enough fit).now after sized is_root bare (stand sets_so schema before after rows s enough fit))
+        (no_index mid size schema _ table.indexes rows (set sets_so schema before after rows s enough fit).now after sized is_root few (stand sets_so schema before after rows s enough fit))
 
     -- of a table with indexes
     module _ (gone come : Vec stored.TableRow) (means : MeansRows c found (Ok gone)) (sets_so : SetsRows {X = ⊤} old mid size table.root table sets c found (Ok tt))
@@ -131,7 +124,7 @@ module _ (old mid : PageMap) (size : ℕ) (table : Table) (c : Option Term) (set
         came = changed_shuffle table sets c rows (map row_in come.items) now (tells rows enough) (set sets_so schema before after rows s enough fit).answer
 
         same_rowids : rowids (map row_in gone.items) ≡ rowids (map row_in come.items)
-        same_rowids = sym (ap rowids gone_are) ∙ rowids_kept table sets c rows (map row_in come.items) (tells rows enough)
+        same_rowids = sym (ap rowids gone_are) ∙ rowids_kept table sets bare c rows (map row_in come.items) (tells rows enough)
 
         now_apart : AreApart now
         now_apart = fit_apart table now (fits sets_so schema before after rows s enough fit)

@@ -1,5 +1,5 @@
 -- Of rows that a table may hold, a record holds each index's entry, unless the index is too wide.
-use Rattle.std.proofs.Common.{◌≡◌, refl, sym, ap, ◌∙◌, ◌≤◌, ◌+◌, ◌&&◌, ◌||◌, ◌==◌, ℕ, zero, suc, Bool, true, false, List, [], ◌∷◌, ◌++◌, length, map, slice_index_or, nat_le, arith}
+use Rattle.std.proofs.Common.{◌≡◌, refl, sym, ap, ◌∙◌, ◌≤◌, ◌+◌, ◌&&◌, ◌||◌, ◌==◌, ℕ, zero, suc, Bool, true, false, List, [], ◌∷◌, length, map, slice_index_or, nat_le, arith}
 use Rattle.std.proofs.lemmas.Bool.{false≢true}
 use Rattle.std.proofs.lemmas.Bool.Decides.{nat_tests}
 use Rattle.std.proofs.lemmas.List.{length-map}
@@ -12,8 +12,8 @@ use Rattle.sqlval.specs.Lists.{is_rising}
 use Rattle.sqlval.specs.declared.value.Value.{Value}
 use Rattle.sqlval.specs.declared.value.Value.TheVariants.{Null, Int, Text, Blob}
 use Rattle.record.specs.Writing.{AreStorable, IsStorable}
-use Rattle.catalog.specs.Listed.{with_rows}
-use Rattle.catalog.specs.Rows.{are_rows, is_row, is_value}
+use Rattle.catalog.specs.Listed.{own_column, with_rows}
+use Rattle.catalog.specs.Rows.{are_rows, holds_rowid, is_row, is_value}
 use Rattle.catalog.specs.declared.tables.Index.{Index}
 use Rattle.catalog.specs.declared.tables.IndexColumn.{IndexColumn}
 use Rattle.catalog.specs.declared.tables.Table.{Table}
@@ -23,6 +23,7 @@ use Rattle.index_entries.specs.Keeping.{columns_in}
 use Rattle.db_layout.specs.Trees.{columns_of}
 use Rattle.db_write.specs.Changing.{has_wide_index, is_wide}
 use Rattle.db_write.specs.Turning.{AreEntriesStorable, CanBeIndexed}
+use Rattle.db_write.proofs.Shuffling.{Shuffles, all_come}
 
 first_of : (a b : Bool) → a && b ≡ true → a ≡ true
 first_of true b e = refl
@@ -73,7 +74,7 @@ entry_storable columns row few e = (
 )
 
 values_of_row : (t : Table) (rows : List TableRow) (row : TableRow) → is_row (with_rows t rows) row ≡ true → list_all is_value row.1 ≡ true
-values_of_row t rows row e = second_of (is_word row.0 && length row.1 == length (with_rows t rows).columns) (list_all is_value row.1) (first_of (is_word row.0 && length row.1 == length (with_rows t rows).columns && list_all is_value row.1) true e)
+values_of_row t rows row e = second_of (is_word row.0 && length row.1 == length (with_rows t rows).columns) (list_all is_value row.1) (first_of (is_word row.0 && length row.1 == length (with_rows t rows).columns && list_all is_value row.1) (holds_rowid (own_column t) row) e)
 
 -- ---- rows
 
@@ -112,11 +113,7 @@ wide_among t rows fit long = by (has_wide_index t) refl
     by true e = refl
     by false e = absurd (long (each t.indexes e))
 
--- what holds of all rows' entries holds of one's
-pub one_storable : (indexes : List Index) (before : List TableRow) (row : TableRow) (after : List TableRow) → AreEntriesStorable indexes (before ++ row ∷ after) → AreEntriesStorable indexes (row ∷ [])
-one_storable [] before row after all = tt
-one_storable (index ∷ indexes) before row after all = ((found before all.0, tt), one_storable indexes before row after all.1)
-  where
-    found : (before : List TableRow) → CanBeIndexed (columns_of index) (before ++ row ∷ after) → AreStorable (indexed (columns_of index) row)
-    found [] these = these.0
-    found (other ∷ before) these = found before these.1
+-- what holds of all rows' entries holds of those of the rows that come
+pub some_storable : {stay come now : List TableRow} (indexes : List Index) → Shuffles stay come now → AreEntriesStorable indexes now → AreEntriesStorable indexes come
+some_storable [] shuffle all = tt
+some_storable (index ∷ indexes) shuffle all = (all_come (λ row. AreStorable (indexed (columns_of index) row)) shuffle all.0, some_storable indexes shuffle all.1)

@@ -56,7 +56,7 @@ IsTooWide table fault = (fault ≡ TooLong) × (has_wide_index table ≡ true)
 
 -- ---- INSERT
 
--- The table has what the rows given become, after its rows ("INSERT").
+-- The table has what the rows given become, among its rows ("INSERT").
 pub record AreInserted (old new : PageMap) (size : ℕ) (schema : Owner) (before : List Owner) (table : Table) (places : List (Option ℕ))
     (given : List (List Value)) (rows : List TableRow) (after : List Owner) : Type 0 where
   pub now : List TableRow

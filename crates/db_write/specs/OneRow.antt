@@ -1,7 +1,9 @@
 -- What a change of one row after another makes of a table's trees (SQL As Understood By SQLite, "INSERT", "UPDATE"; "CREATE INDEX", "Unique
 -- Indexes").
-use Rattle.std.specs.Prelude.{◌≡◌, ◌⊎◌, ⊤, ℕ, ℤ, true, List, [], ◌∷◌, ◌++◌, map, Option, Some, Result, Ok, Err, MatchResult}
+use Rattle.std.specs.Prelude.{◌≡◌, ◌⊎◌, ⊤, ℕ, ℤ, true, List, [], ◌∷◌, ◌++◌, map, if◌then◌else◌, int_lt, Option, Some, None, Result, Ok, Err, MatchResult}
+use Rattle.std.specs.FinMap.Entries.{put}
 use Rattle.std.specs.List.{AllByRecursion}
+use Rattle.std.specs.Ordering.{int_cmp}
 use Rattle.sqlval.specs.PageSizes.{IsPageSize}
 use Rattle.sqlval.specs.Refusals.{Answer, ◌then◌, refusal_of}
 use Rattle.sqlval.specs.declared.fault.Fault.{Fault}
@@ -29,17 +31,22 @@ IsRefusedAs answer table fault = IsOutsideOrFull fault ⊎ ((answer ≡ Err (ref
 
 -- ---- INSERT
 
+-- the last rowid of rows whose last rowid was this, with one of that rowid among them
+abbrev pub last_with : Option ℤ → ℤ → Option ℤ
+last_with None rowid = Some rowid
+last_with (Some last) rowid = if int_lt rowid last then Some last else Some rowid
+
 -- the row that a row given becomes, where it is alone among the table's
 abbrev pub row_inserted : Table → List (Option ℕ) → List TableRow → List Value → Answer TableRow
 row_inserted table places rows given = row_added table places (last_rowid rows) given then λ row. admitted table rows row
 
--- The table has after its rows the one that a row given becomes, whose rowid is the last one then.
+-- The table has among its rows the one that a row given becomes, and this is the last rowid then.
 pub record IsOneInserted (old new : PageMap) (size : ℕ) (schema : Owner) (before : List Owner) (table : Table) (places : List (Option ℕ))
     (given : List Value) (rows : List TableRow) (after : List Owner) (last : Option ℤ) : Type 0 where
   pub row : TableRow
   pub answer : row_inserted table places rows given ≡ Ok row
-  pub is : last ≡ Some row.0
-  pub hold : HoldsFitRows old new size schema before table (rows ++ row ∷ []) after
+  pub is : last ≡ last_rowid (put int_cmp row.0 row.1 rows)
+  pub hold : HoldsFitRows old new size schema before table (put int_cmp row.0 row.1 rows) after
 
 -- A row given is inserted into the table, whose last rowid this is, and the last rowid then is answered; or the call is refused.
 abbrev pub InsertsOne : PageMap → PageMap → ℕ → Table → List (Option ℕ) → List Value → Option ℤ → Result (Option ℤ) Fault → Type 0
@@ -60,12 +67,12 @@ InsertsFrom old new size table places given last result = (schema : Owner) (befo
 abbrev pub row_turned : Table → List (ℕ × Term) → TableRow → List TableRow → Answer TableRow
 row_turned table sets row others = row_set table sets row then λ now. admitted table others now
 
--- The table has in the row's place what it becomes by SET.
+-- The table has, without the row, what it becomes by SET.
 pub record IsTurned (old new : PageMap) (size : ℕ) (schema : Owner) (before : List Owner) (table : Table) (sets : List (ℕ × Term))
     (front : List TableRow) (row : TableRow) (back : List TableRow) (after : List Owner) : Type 0 where
   pub now : TableRow
   pub answer : row_turned table sets row (front ++ back) ≡ Ok now
-  pub hold : HoldsFitRows old new size schema before table (front ++ now ∷ back) after
+  pub hold : HoldsFitRows old new size schema before table (put int_cmp now.0 now.1 (front ++ back)) after
 
 -- A row of the table becomes what SET makes of it; or the call is refused.
 abbrev pub TurnsRow : PageMap → PageMap → ℕ → Table → List (ℕ × Term) → Row → Result ⊤ Fault → Type 0

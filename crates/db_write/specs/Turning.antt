@@ -48,11 +48,6 @@ abbrev pub TurnIndexes : PageMap → PageMap → ℕ → List Index → List Tab
 TurnIndexes old new size indexes from to Why result = (schema : Owner) (before after : List Owner) → IsPageSize size → schema.root ≡ 1
     → HaveEntries old size schema before indexes from after → MatchResult result (λ done. HaveNow old new size schema before indexes to after) Why
 
--- Rows of other rowids come to the table, and their entries to each index.
-abbrev pub AddsToIndexes : PageMap → PageMap → ℕ → List Index → List TableRow → Result ⊤ Fault → Type 0
-AddsToIndexes old new size indexes added result = (rows : List TableRow) → AreApart (rows ++ added) → TurnIndexes old new size indexes rows (rows ++ added)
-    (λ fault. IsOutsideOrFull fault ⊎ ((fault ≡ TooLong) × (AreEntriesStorable indexes added → ⊥))) result
-
 -- Rows go from the table, and their entries from each index.
 abbrev pub TakesFromIndexes : PageMap → PageMap → ℕ → List Index → List TableRow → Result ⊤ Fault → Type 0
 TakesFromIndexes old new size indexes gone result = (rows : List TableRow) → AreApart (rows ++ gone) → TurnIndexes old new size indexes (rows ++ gone) rows IsOutsideOrFull result
@@ -123,6 +118,11 @@ ReplacesRowInIndex old new size index gone come result = (before after : List Ta
 abbrev pub ReplacesRowInIndexes : PageMap → PageMap → ℕ → List Index → TableRow → TableRow → Result ⊤ Fault → Type 0
 ReplacesRowInIndexes old new size indexes gone come result = (before after : List TableRow) → AreApart (before ++ gone ∷ after) → gone.0 ≡ come.0
     → TurnAlone old new size indexes (before ++ gone ∷ after) (before ++ come ∷ after) come (before ++ after) result
+
+-- A row goes from the table and another comes, and the entry of the one goes from each index and that of the other comes.
+abbrev pub MovesRowInIndexes : PageMap → PageMap → ℕ → List Index → TableRow → TableRow → Result ⊤ Fault → Type 0
+MovesRowInIndexes old new size indexes gone come result = (rows : List TableRow) → AreApart (rows ++ gone ∷ []) → AreApart (rows ++ come ∷ [])
+    → TurnAlone old new size indexes (rows ++ gone ∷ []) (rows ++ come ∷ []) come rows result
 
 -- ---- trees that are given back
 

@@ -1,60 +1,18 @@
-//! Entries of rows that come to a table, of rows that go, and of rows that take others' places, in the tree of each of its indexes.
+//! Entries of rows that go from a table, and of rows that take others' places, in the tree of each of its indexes.
 
 ghost use Rattle.std.specs.Prelude.{◌≡◌, IsTrue, map};
 ghost use Rattle.pages.specs.Calls.{Causes};
-ghost use Rattle.index_entries.specs.Keeping.{AddsEntries, TakesEntries, row_in};
+ghost use Rattle.index_entries.specs.Keeping.{TakesEntries, row_in};
 ghost use Rattle.index_entries.specs.Replacing.{ReplacesEntries};
 ghost use Rattle.db_layout.specs.Trees.{columns_of};
-ghost use Rattle.db_write.specs.Turning.{AddsToIndexes, ClearsIndexes, FreesIndexes, ReplacesInIndexes, TakesFromIndexes};
+ghost use Rattle.db_write.specs.Turning.{ClearsIndexes, FreesIndexes, ReplacesInIndexes, TakesFromIndexes};
 
 use catalog::{Index, TableRow};
-use index_entries::{add_entries, replace_entries, take_entries};
+use index_entries::{replace_entries, take_entries};
 use pages::WritePages;
 use sqlval::R;
 use std::alloc::Global;
 use tree_index::{clear, free_tree};
-
-/// Puts the entries of rows into an index's tree. (What `add_entries` refuses.)
-fn add_to_index<P: WritePages>(
-    alloc: Global,
-    pages: &mut P,
-    index: &Index,
-    rows: &[TableRow],
-) -> R<()>
-    ensures added { IsTrue (P.Pages.tells (P.Pages.below pages.old))
-        → AddsEntries (P.Pages.map pages.old) (P.Pages.map pages.new)
-        (P.Pages.limits (P.Pages.below pages.old)).page
-        index.now.root (columns_of index.now) (map row_in rows.now) result }
-    ensures kept { P.Pages.below pages.new ≡ P.Pages.below pages.old }
-    ensures causes { Causes result (P.Pages.failures pages.old) (P.Pages.failures pages.new)
-        (P.Pages.count pages.new ≡ (P.Pages.limits (P.Pages.below pages.new)).most) }
-{
-    add_entries(alloc, pages, index.root, index.columns.as_slice(), rows)
-}
-
-/// Puts the entries of rows that come to a table into the tree of each of these indexes. (What `add_entries` refuses. Then some entries
-/// may be in.)
-pub(crate) fn add_to_indexes<P: WritePages>(
-    alloc: Global,
-    pages: &mut P,
-    indexes: &[Index],
-    rows: &[TableRow],
-) -> R<()>
-    ensures added { IsTrue (P.Pages.tells (P.Pages.below pages.old))
-        → AddsToIndexes (P.Pages.map pages.old) (P.Pages.map pages.new)
-        (P.Pages.limits (P.Pages.below pages.old)).page
-        indexes.now (map row_in rows.now) result }
-    ensures kept { P.Pages.below pages.new ≡ P.Pages.below pages.old }
-    ensures causes { Causes result (P.Pages.failures pages.old) (P.Pages.failures pages.new)
-        (P.Pages.count pages.new ≡ (P.Pages.limits (P.Pages.below pages.new)).most) }
-{
-    let mut left = indexes;
-    'indexes: while let [index, rest @ ..] = left {
-        add_to_index(alloc, pages, index, rows)?;
-        left = rest;
-    }
-    Ok(())
-}
 
 /// Takes the entries of rows out of an index's tree. (What `take_entries` refuses.)
 fn take_from_index<P: WritePages>(

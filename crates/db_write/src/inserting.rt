@@ -1,46 +1,28 @@
 //! Rows that are inserted, with their entries.
 
-ghost use Rattle.std.specs.Prelude.{◌≡◌, false, Some, IsTrue, map};
+ghost use Rattle.std.specs.Prelude.{◌≡◌, IsTrue, map};
 ghost use Rattle.pages.specs.Calls.{Causes};
-ghost use Rattle.row_change.specs.Agreement.{has_unique};
 ghost use Rattle.index_entries.specs.Keeping.{row_in};
 ghost use Rattle.db_write.specs.Changing.{InsertsInTrees};
-ghost use Rattle.db_write.specs.OneRow.{InsertsFrom, InsertsOne};
+ghost use Rattle.db_write.specs.OneRow.{InsertsFrom, InsertsOne, last_with};
 
-use crate::entries::add_to_indexes;
-use crate::row_entries::{add_row_to_indexes, has_unique};
+use crate::row_entries::add_row_to_indexes;
 use catalog::{Table, TableRow};
 use pages::WritePages;
 use query_names::BoundInsert;
-use row_change::{put_new_row, put_new_rows, rows_without_keys_are_free};
+use row_change::put_new_row;
 use sqlval::{R, Row, Value};
 use std::alloc::Global;
 use tree_table::last;
 
-/// Puts the rows of an INSERT into the tree of a table without a UNIQUE index, after its own, and their entries into the trees of its
-/// indexes, one index after another. (What `put_new_rows` and `add_entries` refuse.)
-fn insert_all<P: WritePages>(alloc: Global, pages: &mut P, insert: BoundInsert<'_>) -> R<()>
-    requires plain { has_unique insert.table.now ≡ false }
-    ensures inserted { IsTrue (P.Pages.tells (P.Pages.below pages.old))
-        → InsertsInTrees (P.Pages.map pages.old) (P.Pages.map pages.new)
-        (P.Pages.limits (P.Pages.below pages.old)).page
-        insert.entry.table.now insert.entry.places.items
-        (map (λ row. row.items) insert.entry.rows.items) result }
-    ensures kept { P.Pages.below pages.new ≡ P.Pages.below pages.old }
-    ensures causes { Causes result (P.Pages.failures pages.old) (P.Pages.failures pages.new)
-        (P.Pages.count pages.new ≡ (P.Pages.limits (P.Pages.below pages.new)).most) }
+/// The last rowid of a table, once this row is one of its rows.
+fn last_after(last: Option<i64>, row: &TableRow) -> Option<i64>
+    ensures { result ≡ last_with last (row_in row.now).0 }
 {
-    rows_without_keys_are_free();
-    let table = insert.table;
-    let added = put_new_rows(alloc, pages, insert)?;
-    add_to_indexes(alloc, pages, table.indexes.as_slice(), &added)
-}
-
-/// The last rowid of a table, once this row is its last.
-fn last_after(row: &TableRow) -> Option<i64>
-    ensures { result ≡ Some (row_in row.now).0 }
-{
-    Some(row.rowid)
+    match last {
+        Some(last) if row.rowid < last => Some(last),
+        _ => Some(row.rowid),
+    }
 }
 
 /// Puts the row that a row given becomes into the tree of its table, whose last rowid this is, and its entries into the trees of the table's
@@ -63,7 +45,7 @@ fn insert_row<P: WritePages>(
 {
     let row = put_new_row(alloc, pages, table, places, given, last)?;
     add_row_to_indexes(alloc, pages, table.indexes.as_slice(), &row)?;
-    Ok(last_after(&row))
+    Ok(last_after(last, &row))
 }
 
 /// Puts the rows that rows given become into the trees of their table, whose last rowid this is, one after another. (What `insert_row` refuses.)
@@ -92,9 +74,10 @@ fn insert_from<P: WritePages>(
     Ok(())
 }
 
-/// Puts the rows of an INSERT into the trees of their table, one after another, each of which has to be alone among those before it. (What `last`
-/// and `insert_from` refuse.)
-fn insert_each<P: WritePages>(alloc: Global, pages: &mut P, insert: BoundInsert<'_>) -> R<()>
+/// Puts the rows of an INSERT into the tree of their table, and their entries into the trees of its indexes: each row comes with its entries
+/// before the next one. (What the columns and the table refuse of a row, in order; `Unique` for a row that has the rowid of one before it, or its
+/// key in a UNIQUE index; `TooLong` for an index of more than 999 columns; `Memory`, `Io`, `Full`. Then some pages may have changed.)
+pub fn insert_rows<P: WritePages>(alloc: Global, pages: &mut P, insert: BoundInsert<'_>) -> R<()>
     ensures inserted { IsTrue (P.Pages.tells (P.Pages.below pages.old))
         → InsertsInTrees (P.Pages.map pages.old) (P.Pages.map pages.new)
         (P.Pages.limits (P.Pages.below pages.old)).page
@@ -111,25 +94,4 @@ fn insert_each<P: WritePages>(alloc: Global, pages: &mut P, insert: BoundInsert<
     } = insert;
     let last = last(pages, table.root)?;
     insert_from(alloc, pages, table, &places, &rows, last)
-}
-
-/// Puts the rows of an INSERT into the tree of their table, after its own, and their entries into the trees of its indexes. Where an index is
-/// UNIQUE, a row comes with its entries before the next one. (What the columns and the table refuse of a row, in order; `Unique` for a row that
-/// has the key of one before it in a UNIQUE index; `TooLong` for an index of more than 999 columns; `Memory`, `Io`, `Full`. Then some pages may
-/// have changed.)
-pub fn insert_rows<P: WritePages>(alloc: Global, pages: &mut P, insert: BoundInsert<'_>) -> R<()>
-    ensures inserted { IsTrue (P.Pages.tells (P.Pages.below pages.old))
-        → InsertsInTrees (P.Pages.map pages.old) (P.Pages.map pages.new)
-        (P.Pages.limits (P.Pages.below pages.old)).page
-        insert.entry.table.now insert.entry.places.items
-        (map (λ row. row.items) insert.entry.rows.items) result }
-    ensures kept { P.Pages.below pages.new ≡ P.Pages.below pages.old }
-    ensures causes { Causes result (P.Pages.failures pages.old) (P.Pages.failures pages.new)
-        (P.Pages.count pages.new ≡ (P.Pages.limits (P.Pages.below pages.new)).most) }
-{
-    if has_unique(insert.table) {
-        insert_each(alloc, pages, insert)
-    } else {
-        insert_all(alloc, pages, insert)
-    }
 }

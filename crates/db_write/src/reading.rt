@@ -1,7 +1,8 @@
 //! The rows of a table that are read for a condition.
 
-ghost use Rattle.std.specs.Prelude.{◌≡◌, IsTrue, length};
+ghost use Rattle.std.specs.Prelude.{◌≡◌, IsTrue};
 ghost use Rattle.pages.specs.Calls.{Stays};
+ghost use Rattle.catalog.specs.Listed.{shape_of};
 ghost use Rattle.db_write.specs.Reading.{LoadsEnough};
 
 use catalog::Table;
@@ -16,11 +17,11 @@ use std::alloc::Global;
 /// A table as a query's source.
 pub(crate) fn source_of(table: &Table) -> BoundSource
     ensures root { result.root ≡ table.now.root }
-    ensures width { result.width ≡ length table.now.columns }
+    ensures shape { result.shape ≡ shape_of table.now }
 {
     BoundSource {
         root: table.root,
-        width: table.columns.len(),
+        shape: table.shape(),
     }
 }
 

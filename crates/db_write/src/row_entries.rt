@@ -4,13 +4,15 @@ ghost use Rattle.std.specs.Prelude.{◌≡◌, IsTrue};
 ghost use Rattle.pages.specs.Calls.{Causes};
 ghost use Rattle.row_change.specs.Agreement.{has_unique};
 ghost use Rattle.index_entries.specs.Keeping.{row_in};
-ghost use Rattle.db_write.specs.Turning.{AddsRowToIndex, AddsRowToIndexes, ReplacesRowInIndex, ReplacesRowInIndexes};
+ghost use Rattle.db_write.specs.Turning.{AddsRowToIndex, AddsRowToIndexes, MovesRowInIndexes, ReplacesRowInIndex, ReplacesRowInIndexes};
 
+use crate::entries::take_from_indexes;
 use catalog::{Index, Table, TableRow};
 use index_entries::{add_alone, add_row, replace_alone, replace_row};
 use pages::WritePages;
 use sqlval::{Fault, R};
 use std::alloc::Global;
+use std::array::from_ref;
 
 /// Whether one of a table's indexes is UNIQUE.
 pub(crate) fn has_unique(table: &Table) -> bool
@@ -119,4 +121,25 @@ pub(crate) fn replace_row_in_indexes<P: WritePages>(
         left = rest;
     }
     Ok(())
+}
+
+/// Takes the entry of a row out of the tree of each of these indexes, and then puts that of another into each. (What `take_from_indexes` and
+/// `add_row_to_indexes` refuse. Then some entries may have changed.)
+pub(crate) fn move_row_in_indexes<P: WritePages>(
+    alloc: Global,
+    pages: &mut P,
+    indexes: &[Index],
+    gone: &TableRow,
+    come: &TableRow,
+) -> R<()>
+    ensures moved { IsTrue (P.Pages.tells (P.Pages.below pages.old))
+        → MovesRowInIndexes (P.Pages.map pages.old) (P.Pages.map pages.new)
+        (P.Pages.limits (P.Pages.below pages.old)).page
+        indexes.now (row_in gone.now) (row_in come.now) result }
+    ensures kept { P.Pages.below pages.new ≡ P.Pages.below pages.old }
+    ensures causes { Causes result (P.Pages.failures pages.old) (P.Pages.failures pages.new)
+        (P.Pages.count pages.new ≡ (P.Pages.limits (P.Pages.below pages.new)).most) }
+{
+    take_from_indexes(alloc, pages, indexes, from_ref(gone).as_slice())?;
+    add_row_to_indexes(alloc, pages, indexes, come)
 }

@@ -1,7 +1,8 @@
 //! Rows that are updated, with their entries.
 
-ghost use Rattle.std.specs.Prelude.{◌≡◌, false, IsTrue, length, map};
+ghost use Rattle.std.specs.Prelude.{◌≡◌, false, None, IsTrue, length, map};
 ghost use Rattle.pages.specs.Calls.{Causes};
+ghost use Rattle.catalog.specs.Listed.{own_column};
 ghost use Rattle.query_terms.specs.Rows.{row_at};
 ghost use Rattle.row_change.specs.Agreement.{has_unique};
 ghost use Rattle.db_write.specs.Changing.{UpdatesInTrees};
@@ -9,7 +10,7 @@ ghost use Rattle.db_write.specs.OneRow.{TurnsFrom, TurnsRow};
 
 use crate::entries::replace_in_indexes;
 use crate::reading::enough_rows;
-use crate::row_entries::{has_unique, replace_row_in_indexes};
+use crate::row_entries::{has_unique, move_row_in_indexes, replace_row_in_indexes};
 use catalog::Table;
 use pages::WritePages;
 use query_terms::{SourceRow, Term};
@@ -19,7 +20,7 @@ use row_change::{
 use sqlval::{Many, R};
 use std::alloc::Global;
 
-/// Sets values in the rows of a table without indexes. (What `enough_rows` and `set_new_rows` refuse.)
+/// Sets values in the rows of a table without indexes and without a column for its rowid. (What `enough_rows` and `set_new_rows` refuse.)
 fn set_bare_rows<P: WritePages>(
     alloc: Global,
     pages: &mut P,
@@ -28,6 +29,7 @@ fn set_bare_rows<P: WritePages>(
     sets: &[(usize, Term)],
 ) -> R<()>
     requires bare { length table.now.indexes ≡ 0 }
+    requires no_own { own_column table.now ≡ None }
     ensures updated { IsTrue (P.Pages.tells (P.Pages.below pages.old))
         → UpdatesInTrees (P.Pages.map pages.old) (P.Pages.map pages.new)
         (P.Pages.limits (P.Pages.below pages.old)).page
@@ -42,8 +44,9 @@ fn set_bare_rows<P: WritePages>(
     Ok(())
 }
 
-/// Sets values in the rows of a table without a UNIQUE index, and puts the entries that they have then in place of those that they had in
-/// the trees of its indexes, one index after another. (What `enough_rows`, `meant_rows`, `set_new_rows` and `replace_entries` refuse.)
+/// Sets values in the rows of a table without a UNIQUE index and without a column for its rowid, and puts the entries that they have then in place
+/// of those that they had in the trees of its indexes, one index after another. (What `enough_rows`, `meant_rows`, `set_new_rows` and
+/// `replace_entries` refuse.)
 fn set_indexed_rows<P: WritePages>(
     alloc: Global,
     pages: &mut P,
@@ -52,6 +55,7 @@ fn set_indexed_rows<P: WritePages>(
     sets: &[(usize, Term)],
 ) -> R<()>
     requires plain { has_unique table.now ≡ false }
+    requires no_own { own_column table.now ≡ None }
     ensures updated { IsTrue (P.Pages.tells (P.Pages.below pages.old))
         → UpdatesInTrees (P.Pages.map pages.old) (P.Pages.map pages.new)
         (P.Pages.limits (P.Pages.below pages.old)).page
@@ -68,7 +72,7 @@ fn set_indexed_rows<P: WritePages>(
 }
 
 /// Sets values in a row of a table, which is that at a place, and puts its new entry in place of its old one in the tree of each index. (What
-/// `row_copy`, `set_row` and `replace_row_in_indexes` refuse.)
+/// `row_copy`, `set_row`, `replace_row_in_indexes` and `move_row_in_indexes` refuse.)
 fn turn_row<P: WritePages>(
     alloc: Global,
     pages: &mut P,
@@ -87,7 +91,12 @@ fn turn_row<P: WritePages>(
 {
     let gone = row_copy(alloc, rows, place)?;
     let come = set_row(alloc, pages, table, sets, rows, place)?;
-    replace_row_in_indexes(alloc, pages, table.indexes.as_slice(), &gone, &come)
+    let indexes = table.indexes.as_slice();
+    if come.rowid == gone.rowid {
+        replace_row_in_indexes(alloc, pages, indexes, &gone, &come)
+    } else {
+        move_row_in_indexes(alloc, pages, indexes, &gone, &come)
+    }
 }
 
 /// Sets values in the rows of a table that are those at these places, one after another. (What `turn_row` refuses.)
@@ -139,9 +148,9 @@ fn set_each<P: WritePages>(
 
 /// Sets values in the rows of a table for which a condition is true, or in all where there is none, and changes their entries in its indexes
 /// accordingly. Rows are read once. An entry that stays as it is costs no page, except that a UNIQUE index is searched for another row of
-/// its key; where there is such an index, a row changes with its entries before the next one. (What the condition, SET's expressions, the
-/// columns and the table refuse for a row, in order; `Unique` for a row that has another's key in a UNIQUE index; `TooLong` for an index of
-/// more than 999 columns; `Memory`, `Io`, `Full`. Then some pages may have changed.)
+/// its key; where there is such an index, or a column for the rowid, a row changes with its entries before the next one. (What the condition,
+/// SET's expressions, the columns and the table refuse for a row, in order; `Unique` for a row that has another's rowid then, or its key in a
+/// UNIQUE index; `TooLong` for an index of more than 999 columns; `Memory`, `Io`, `Full`. Then some pages may have changed.)
 pub fn update_rows<P: WritePages>(
     alloc: Global,
     pages: &mut P,
@@ -157,7 +166,7 @@ pub fn update_rows<P: WritePages>(
     ensures causes { Causes result (P.Pages.failures pages.old) (P.Pages.failures pages.new)
         (P.Pages.count pages.new ≡ (P.Pages.limits (P.Pages.below pages.new)).most) }
 {
-    if has_unique(table) {
+    if has_unique(table) || table.own_column().is_some() {
         set_each(alloc, pages, table, condition, sets)
     } else if table.indexes.as_slice().is_empty() {
         set_bare_rows(alloc, pages, table, condition, sets)

@@ -37,7 +37,7 @@ use Rattle.catalog.specs.declared.tables.Table.{Table}
 use Rattle.catalog.proofs.Found.{names_found}
 use Rattle.query_names.specs.Checked.{Checked, Meant, faults, good}
 use Rattle.query_names.specs.Bound.{IsFaultOf, is_twice_named}
-use Rattle.query_names.specs.Creating.{IsCreateRefusal, defined, described, has_doubled, has_rowid_key, table_keys_known}
+use Rattle.query_names.specs.Creating.{IsCreateRefusal, defined, described, has_doubled, table_keys_known}
 use Rattle.query_names.specs.Schema.{automatic, automatic_name, create, with_objects}
 use Rattle.query_names.proofs.CreatedTables.{makes_table, named_columns, refuses_table}
 use Rattle.row_scan.specs.Rows.{TableRow}
@@ -82,11 +82,11 @@ bare_made db d t = with_object db d.name (ATable (with_rows t []))
 abbrev pub made_of : Database → TableDefinition → Table → Database
 made_of db d t = with_objects (bare_made db d t) (due_objects t)
 
-pub reached : (sql : List ℕ) (db : Database) (rows_at : ℕ → List TableRow) (tables : List Table) (d : TableDefinition) (t : Table) → IsOfTables rows_at tables db → has_rowid_key d ≡ false → IsNewTable tables d t
+pub reached : (sql : List ℕ) (db : Database) (rows_at : ℕ → List TableRow) (tables : List Table) (d : TableDefinition) (t : Table) → IsOfTables rows_at tables db → IsNewTable tables d t
     → Reaches (change_made (creating sql d) db) (made_of db d t)
-reached sql db rows_at tables d t of_tables plain new =
+reached sql db rows_at tables d t of_tables new =
     subst (λ (k : Checked Database). Reaches (of_known k) (made_of db d t))
-    (sym (makes_table rows_at tables db d t of_tables.lists plain (record { free = new.makes.free; new = new.new; once = new.makes.once }) new.makes.columns new.makes.checks new.makes.keys
+    (sym (makes_table rows_at tables db d t of_tables.lists (record { free = new.makes.free; new = new.new; once = new.makes.once }) new.makes.columns new.makes.checks new.makes.keys
     ∙ ap (λ (n : Name). good (with_objects (bare_made db d t) (automatic n 1 (map key_columns t.keys)))) (sym new.makes.name_is))) refl
 
 -- ---- names that none has
@@ -153,18 +153,18 @@ module _ (laws : Laws) (old : PageMap) (size : ℕ) (tables : List Table) (db : 
     schema_then = schema_stands mid size (rows_with held.rows_at root []) (t ∷ tables) held.schema then_trees laws.stand
 
     -- its row isn't added
-    pub refused_row : has_rowid_key d ≡ false → (f : Fault) → IsOutsideOrFull f ⊎ AreTooLong (schema_row (codes "table") d.name d.name root (Some sql)) f → IsChangeRefusal (creating sql d) db f
-    refused_row plain f (inl full) = inl full
-    refused_row plain f (inr (what, long)) = inr (inr (record {
+    pub refused_row : (f : Fault) → IsOutsideOrFull f ⊎ AreTooLong (schema_row (codes "table") d.name d.name root (Some sql)) f → IsChangeRefusal (creating sql d) db f
+    refused_row f (inl full) = inl full
+    refused_row f (inr (what, long)) = inr (inr (record {
       is = what;
       why = inr (record {
         made = made_of db d t;
-        reaches = reached sql db held.rows_at tables d t held.of_tables plain new_table;
+        reaches = reached sql db held.rows_at tables d t held.of_tables new_table;
         long = (root, inl long);
       });
     }))
 
-    module _ (plain : has_rowid_key d ≡ false) (text : IsCreateOf sql (object.Table d)) (new : PageMap) (unused : is_among t.rowid (rowids_of tables) ≡ false)
+    module _ (text : IsCreateOf sql (object.Table d)) (new : PageMap) (unused : is_among t.rowid (rowids_of tables) ≡ false)
         (added : IsAdded mid new size (schema_row (codes "table") d.name d.name root (Some sql)) held.schema held.schema_used tree.now_free t.rowid) where
       longer : length mid ≤ length new
       longer = added.becomes.moves.longer
@@ -173,7 +173,7 @@ module _ (laws : Laws) (old : PageMap) (size : ℕ) (tables : List Table) (db : 
       new_row = record {
         sql = sql;
         definition = d;
-        creates = (text, ap not plain);
+        creates = (text, refl);
         makes = new_table.makes;
         rowid_is = added.rowid_is;
         row_is = record {
@@ -257,7 +257,7 @@ module _ (laws : Laws) (old : PageMap) (size : ℕ) (tables : List Table) (db : 
 
 -- ---- the indexes of its keys are listed
 
-module _ (old : PageMap) (size : ℕ) (tables : List Table) (db : Database) (held : Stores old size tables db) (sql : List ℕ) (d : TableDefinition) (plain : has_rowid_key d ≡ false) (t : Table) (new_table : IsNewTable tables d t)
+module _ (old : PageMap) (size : ℕ) (tables : List Table) (db : Database) (held : Stores old size tables db) (sql : List ℕ) (d : TableDefinition) (t : Table) (new_table : IsNewTable tables d t)
     (last : PageMap) where
   -- the table with its indexes has those that its keys ask for
   keys_are : (after : List Table) → (k : IsKeyed last size (t ∷ tables) (bare_made db d t) t (length t.keys) after) → HasKeyIndexes k.keyed
@@ -279,7 +279,7 @@ module _ (old : PageMap) (size : ℕ) (tables : List Table) (db : Database) (hel
     is = what;
     why = inr (record {
       made = made_of db d t;
-      reaches = reached sql db held.rows_at tables d t held.of_tables plain new_table;
+      reaches = reached sql db held.rows_at tables d t held.of_tables new_table;
       long = (root, inr (number, subst (λ (n : Name). AreStorable (schema_row (codes "index") (automatic_name n number) n root None) → ⊥) new_table.makes.name_is long));
     });
   }))
@@ -287,7 +287,7 @@ module _ (old : PageMap) (size : ℕ) (tables : List Table) (db : Database) (hel
   pub creates : (after : List Table) → IsKeyed last size (t ∷ tables) (bare_made db d t) t (length t.keys) after → IsMade (creating sql d) db last size after
   creates after k = record {
     made = made_of db d t;
-    reaches = reached sql db held.rows_at tables d t held.of_tables plain new_table;
+    reaches = reached sql db held.rows_at tables d t held.of_tables new_table;
     stored = subst (λ (os : List (Name × Object)). Stores last size after (with_objects (bare_made db d t) os)) (take_due t) (stored_of last size after (with_objects (bare_made db d t) (take (length t.keys) (due_objects t))) k.holds keys);
   }
     where

@@ -1,11 +1,14 @@
 -- The automatic indexes of tables that change, and how wide they are.
 use Rattle.std.proofs.Common.{◌≡◌, refl, sym, ap, ◌∙◌, ℕ, Bool, true, false, not, ◌||◌, cond, map, filter, List, [], ◌∷◌, ◌++◌, length}
+use Rattle.std.proofs.lemmas.Bool.{false≢true}
 use Rattle.std.proofs.lemmas.List.{length-map}
+use Rattle.std.specs.Prelude.{is_none}
 use Rattle.std.specs.List.{AllByRecursion, list_any}
 use Rattle.sqlval.specs.Names.{is_same_name}
 use Rattle.sqlval.specs.Refusals.{Misuse}
 use Rattle.sqlval.specs.Lists.{any_twice}
 use Rattle.sqlval.specs.declared.collation.Collation.{Collation}
+use Rattle.sql_syntax.specs.declared.create.ColumnDefinition.{ColumnDefinition}
 use Rattle.sql_syntax.specs.declared.create.TableDefinition.{TableDefinition}
 use Rattle.catalog.specs.Database.{AnIndex, Name}
 use Rattle.catalog.specs.Listed.{as_column, as_index, is_table, key_columns, with_replaced, without_table}
@@ -14,8 +17,8 @@ use Rattle.catalog.specs.declared.tables.Column.{Column}
 use Rattle.catalog.specs.declared.tables.Index.{Index}
 use Rattle.catalog.specs.declared.tables.IndexColumn.{IndexColumn}
 use Rattle.catalog.specs.declared.tables.Table.{Table}
-use Rattle.query_names.specs.Checked.{Checked, good, known_all, meant}
-use Rattle.query_names.specs.Creating.{HasKeysOf, are_doubled, places_known}
+use Rattle.query_names.specs.Checked.{Checked, good, known_all, known_map, meant}
+use Rattle.query_names.specs.Creating.{HasKeysOf, are_doubled, key_known, keys_split, other_keys, places_known, rowid_place}
 use Rattle.query_names.specs.Scopes.{is_doubled, place_of, resolve_places}
 use Rattle.query_names.specs.Tables.{WrittenKey, collation_at, keys_of, new_source}
 use Rattle.query_names.specs.declared.scope.ScopeSource.{ScopeSource}
@@ -100,25 +103,67 @@ rest_same x y xs ys e = cc
 no_more : {A : Type 0} (x : A) (xs : List A) → [] ≡ x ∷ xs → ⊥
 no_more x xs e = absurd cc
 
-module _ (known : WrittenKey → Checked (List (ℕ × Collation))) (long : (key : WrittenKey) (columns : List (ℕ × Collation)) → known key ≡ good columns → length columns ≡ length key.1) where
-  each_wide : (written : List WrittenKey) (listed : List (List IndexColumn)) → known_all (map known written) ≡ good (map key_columns listed)
-      → list_any (λ (columns : List IndexColumn). is_wide (length columns)) listed ≡ list_any (λ (key : WrittenKey). is_wide (length key.1)) written
+-- a key whose columns are known
+abbrev Known : Type 0
+Known = Bool × List (ℕ × Collation)
+
+module _ (known : WrittenKey → Checked Known) (long : (key : WrittenKey) (bound : Known) → known key ≡ good bound → length bound.1 ≡ length key.1) where
+  each_wide : (written : List WrittenKey) (keys : List Known) → known_all (map known written) ≡ good keys
+      → list_any (λ (key : Known). is_wide (length key.1)) keys ≡ list_any (λ (key : WrittenKey). is_wide (length key.1)) written
   each_wide [] [] e = refl
-  each_wide [] (columns ∷ listed) e = absurd (no_more (key_columns columns) (map key_columns listed) (ap meant e))
+  each_wide [] (key ∷ keys) e = absurd (no_more key keys (ap meant e))
   each_wide (key ∷ written) [] e =
       let parts = both_parts (λ x xs. x ∷ xs) (known key) (known_all (map known written)) [] e in
       absurd (no_more (meant (known key)) (meant (known_all (map known written))) (sym parts.2))
-  each_wide (key ∷ written) (columns ∷ listed) e =
-      let parts = both_parts (λ x xs. x ∷ xs) (known key) (known_all (map known written)) (key_columns columns ∷ map key_columns listed) e in
-      let here = first_same (meant (known key)) (key_columns columns) (meant (known_all (map known written))) (map key_columns listed) parts.2 in
-      let there = rest_same (meant (known key)) (key_columns columns) (meant (known_all (map known written))) (map key_columns listed) parts.2 in
-      let as_long : length columns ≡ length key.1 = sym (length-map columns (λ (c : IndexColumn). (c.place, c.collation))) ∙ long key (key_columns columns) (parts.0 ∙ ap good here) in
-      ap (λ n. is_wide n || list_any (λ (columns : List IndexColumn). is_wide (length columns)) listed) as_long
-      ∙ ap (λ b. is_wide (length key.1) || b) (each_wide written listed (parts.1 ∙ ap good there))
+  each_wide (key ∷ written) (bound ∷ keys) e =
+      let parts = both_parts (λ x xs. x ∷ xs) (known key) (known_all (map known written)) (bound ∷ keys) e in
+      let here = first_same (meant (known key)) bound (meant (known_all (map known written))) keys parts.2 in
+      let there = rest_same (meant (known key)) bound (meant (known_all (map known written))) keys parts.2 in
+      let as_long : length bound.1 ≡ length key.1 = long key bound (parts.0 ∙ ap good here) in
+      ap (λ n. is_wide n || list_any (λ (key : Known). is_wide (length key.1)) keys) as_long
+      ∙ ap (λ b. is_wide (length key.1) || b) (each_wide written keys (parts.1 ∙ ap good there))
+
+bound_long : (table : Name) (columns : List Column) (key : WrittenKey) (bound : Known) → key_known table columns key ≡ good bound → length bound.1 ≡ length key.1
+bound_long table columns key bound e =
+    let of_places = map_good (λ (places : List (ℕ × Collation)). (let known : Known = (key.0, places) in known)) (places_known table columns key.1) bound e in
+    ap (λ (k : Known). length k.1) (sym of_places.2) ∙ key_long table columns key.1 of_places.0 of_places.1
+
+-- a key that makes a column another name of the rowid has one column
+one_column : (cs : List ColumnDefinition) (key : Known) → is_none (rowid_place cs key) ≡ false → is_wide (length key.1) ≡ false
+one_column cs (false, columns) h = absurd (false≢true (sym h))
+one_column cs (true, []) h = absurd (false≢true (sym h))
+one_column cs (true, column ∷ []) h = refl
+one_column cs (true, column ∷ other ∷ columns) h = absurd (false≢true (sym h))
+
+others_wide : (cs : List ColumnDefinition) (keys : List Known) → list_any (λ (key : Known). is_wide (length key.1)) keys ≡ list_any (λ (columns : List (ℕ × Collation)). is_wide (length columns)) (other_keys cs keys)
+others_wide cs [] = refl
+others_wide cs (key ∷ keys) = by (others_wide cs keys) (is_none (rowid_place cs key)) refl
+  where
+    others : List Known
+    others = filter (λ key. is_none (rowid_place cs key)) keys
+
+    any_wide : List Known → Bool
+    any_wide keys = list_any (λ (columns : List (ℕ × Collation)). is_wide (length columns)) (map (λ (key : Known). key.1) keys)
+
+    by : list_any (λ (key : Known). is_wide (length key.1)) keys ≡ any_wide others → (b : Bool) → is_none (rowid_place cs key) ≡ b
+        → (is_wide (length key.1) || list_any (λ (key : Known). is_wide (length key.1)) keys) ≡ any_wide (cond b (key ∷ others) others)
+    by rest true h = ap (λ b. is_wide (length key.1) || b) rest
+    by rest false h = ap (λ b. b || list_any (λ (key : Known). is_wide (length key.1)) keys) (one_column cs key h) ∙ rest
+
+listed_wide : (listed : List (List IndexColumn)) → list_any (λ (columns : List IndexColumn). is_wide (length columns)) listed ≡ list_any (λ (columns : List (ℕ × Collation)). is_wide (length columns)) (map key_columns listed)
+listed_wide [] = refl
+listed_wide (columns ∷ listed) =
+    ap (λ n. is_wide n || list_any (λ (columns : List IndexColumn). is_wide (length columns)) listed) (sym (length-map columns (λ (c : IndexColumn). (c.place, c.collation))))
+    ∙ ap (λ b. is_wide (length (key_columns columns)) || b) (listed_wide listed)
 
 -- a key of a table is too wide where one of its definition is
 pub wide_keys : (d : TableDefinition) (t : Table) → HasKeysOf d t
     → list_any (λ (columns : List IndexColumn). is_wide (length columns)) t.keys ≡ list_any (λ (key : WrittenKey). is_wide (length key.1)) (keys_of d)
 wide_keys d t has =
-    each_wide (λ key. places_known d.name t.columns key.1) (λ key columns e. key_long d.name t.columns key.1 columns e) (keys_of d) t.keys
-    (unless_good (any_twice are_doubled (keys_of d)) Misuse (known_all (map (λ key. places_known d.name t.columns key.1) (keys_of d))) (map key_columns t.keys) has).1
+    let known = known_all (map (key_known d.name t.columns) (keys_of d)) in
+    let split = (unless_good (any_twice are_doubled (keys_of d)) Misuse (known_map (keys_split d.columns) known) (t.rowid_column, map key_columns t.keys) has).1 in
+    let bound = map_good (keys_split d.columns) known (t.rowid_column, map key_columns t.keys) split in
+    listed_wide t.keys
+    ∙ (ap (λ (keys : List (List (ℕ × Collation))). list_any (λ (columns : List (ℕ × Collation)). is_wide (length columns)) keys) (sym (ap (λ p. p.1) bound.2))
+    ∙ (sym (others_wide d.columns bound.0)
+    ∙ each_wide (key_known d.name t.columns) (bound_long d.name t.columns) (keys_of d) bound.0 bound.1))

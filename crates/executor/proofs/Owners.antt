@@ -6,7 +6,7 @@ use Rattle.tree_page.specs.Cells.{Pairwise}
 use Rattle.tree_table.specs.Tree.{IsTableTree}
 use Rattle.db_layout.specs.Layout.{HoldsUnder, IsTree, Owner}
 use Rattle.catalog.specs.Database.{Database, Name}
-use Rattle.catalog.specs.Listed.{is_table, table_named}
+use Rattle.catalog.specs.Listed.{is_table, table_named, shape_of}
 use Rattle.catalog.specs.declared.tables.Table.{Table}
 use Rattle.row_scan.specs.Rows.{TableRow}
 use Rattle.row_scan.specs.Trees.{HasRows}
@@ -101,7 +101,7 @@ tree_of map size rows t o is tree =
 
 -- a table's tree has its rows
 pub has_rows : (map : PageMap) (size : ℕ) (tables : List Table) (db : Database) (held : Stores map size tables db) (name : Name) (t : Table) → table_named name tables ≡ Some t
-    → HasRows map size t.root (length t.columns) (held.rows_at t.root)
+    → HasRows map size t.root (shape_of t) (held.rows_at t.root)
 has_rows map size tables db held name t named =
     let among = found_among (is_table name) tables t named in
     let o = table_of_parts held.rows_at tables held.held among.front t among.back among.parts held.each in

@@ -40,53 +40,53 @@ refused_over q rows r e = ap (λ (a : Answer (List Sortable)). a then λ found. 
 
 module _ {P K : Type 0} (below : P → K) (tells : K → Bool) (limits : K → Limits) (pages : P → PageMap) (count : P → ℕ) (failures : P → ℕ × ℕ) where
   -- What is so after some leaves.
-  pub record HasStreamed (old now : P) (q : Reading) (root at_root : ℕ) (next : Option ℤ) (found : List Sortable) : Type 0 where
+  pub record HasStreamed (old now : P) (q : Reading) (table : BoundSource) (at_root : ℕ) (next : Option ℤ) (found : List Sortable) : Type 0 where
     pub stays : Stays below pages count failures {T = ⊤} (Ok tt) old now
-    pub same_root : at_root ≡ root
+    pub same_root : at_root ≡ table.root
     pub before : List Row
     pub given : given_of q before ≡ Ok found
-    pub are : IsTrue (tells (below old)) → (entries : List Entry) (used : List ℕ) → AreWhole (limits (below old)).page (pages old) → IsTableTree (pages old) (limits (below old)).page root entries used
-        → map as_held entries ≡ before ++ map as_held (rows_from next entries)
+    pub are : IsTrue (tells (below old)) → (entries : List Entry) (used : List ℕ) → AreWhole (limits (below old)).page (pages old) → IsTableTree (pages old) (limits (below old)).page table.root entries used
+        → map (as_held table.shape.own) entries ≡ before ++ map (as_held table.shape.own) (rows_from next entries)
 
-  pub none_streamed : (old : P) (q : Reading) (root at_root : ℕ) (next : Option ℤ) (found : List Sortable) → GiveNone → is_row_by_row q ≡ true → found ≡ [] → at_root ≡ root → BeginsAll next → HasStreamed old old q root at_root next found
-  none_streamed old q root at_root next found none is empty same begin = record {
+  pub none_streamed : (old : P) (q : Reading) (table : BoundSource) (at_root : ℕ) (next : Option ℤ) (found : List Sortable) → GiveNone → is_row_by_row q ≡ true → found ≡ [] → at_root ≡ table.root → BeginsAll next → HasStreamed old old q table at_root next found
+  none_streamed old q table at_root next found none is empty same begin = record {
     stays = record { kept = refl; same = refl; counted = refl; causes = record { db = omega arith; log = omega arith; why = tt } };
     same_root = same;
     before = [];
     given = none q is ∙ ap (λ (l : List Sortable). good l) (sym empty);
-    are = λ told entries used whole tree. ap (map as_held) (sym (begin (pages old) (limits (below old)).page root entries used tree));
+    are = λ told entries used whole tree. ap (map (as_held table.shape.own)) (sym (begin (pages old) (limits (below old)).page table.root entries used tree));
   }
     where
       good : List Sortable → Answer (List Sortable)
       good l = Ok l
 
   -- what a call says of the pages as they were
-  since : (old mid : P) (root at_root : ℕ) (next later : Option ℤ) (result : Result (List Row) Fault) → Stays below pages count failures {T = ⊤} (Ok tt) old mid → at_root ≡ root
-      → (IsTrue (tells (below mid)) → GivesRows (pages mid) (limits (below mid)).page at_root next later result) → IsTrue (tells (below old)) → GivesRows (pages old) (limits (below old)).page root next later result
-  since old mid root at_root next later result stays same gives told =
-      subst (λ (n : ℕ). GivesRows (pages old) (limits (below old)).page n next later result) same
-      (subst (λ (m : PageMap). GivesRows m (limits (below old)).page at_root next later result) stays.same
-      (subst (λ (k : K). GivesRows (pages mid) (limits k).page at_root next later result) stays.kept (gives (subst (λ (k : K). IsTrue (tells k)) (sym stays.kept) told))))
+  since : (old mid : P) (root : ℕ) (own : Option ℕ) (at_root : ℕ) (next later : Option ℤ) (result : Result (List Row) Fault) → Stays below pages count failures {T = ⊤} (Ok tt) old mid → at_root ≡ root
+      → (IsTrue (tells (below mid)) → GivesRows (pages mid) (limits (below mid)).page at_root own next later result) → IsTrue (tells (below old)) → GivesRows (pages old) (limits (below old)).page root own next later result
+  since old mid root own at_root next later result stays same gives told =
+      subst (λ (n : ℕ). GivesRows (pages old) (limits (below old)).page n own next later result) same
+      (subst (λ (m : PageMap). GivesRows m (limits (below old)).page at_root own next later result) stays.same
+      (subst (λ (k : K). GivesRows (pages mid) (limits k).page at_root own next later result) stays.kept (gives (subst (λ (k : K). IsTrue (tells k)) (sym stays.kept) told))))
 
-  module _ (old mid : P) (q : Reading) (table : BoundSource) (at_root : ℕ) (next later : Option ℤ) (found : List Sortable) (has : HasStreamed old mid q table.root at_root next found) where
+  module _ (old mid : P) (q : Reading) (table : BoundSource) (at_root : ℕ) (next later : Option ℤ) (found : List Sortable) (has : HasStreamed old mid q table at_root next found) where
     -- a leaf that isn't read
     pub leaf_unread : {X : Type 0} (view : X → Rows) (fault : Fault) (result : Result X Fault) → HoldRows → IsErrAnd result (λ e. e ≡ fault)
-        → (IsTrue (tells (below mid)) → GivesRows (pages mid) (limits (below mid)).page at_root next later (Err fault)) → IsTrue (tells (below old)) → Streams view (pages old) (limits (below old)).page q table result
+        → (IsTrue (tells (below mid)) → GivesRows (pages mid) (limits (below mid)).page at_root table.shape.own next later (Err fault)) → IsTrue (tells (below old)) → Streams view (pages old) (limits (below old)).page q table result
     leaf_unread view fault (Ok x) hold same gives told rows whole holds = absurd same
     leaf_unread view fault (Err e) hold same gives told rows whole holds =
-        inl (subst IsOutside (sym same) (since old mid table.root at_root next later (Err fault) has.stays has.same_root gives told holds.entries holds.used whole holds.tree))
+        inl (subst IsOutside (sym same) (since old mid table.root table.shape.own at_root next later (Err fault) has.stays has.same_root gives told holds.entries holds.used whole holds.tree))
 
-    module _ (rows : List Row) (gives : IsTrue (tells (below mid)) → GivesRows (pages mid) (limits (below mid)).page at_root next later (Ok rows)) where
+    module _ (rows : List Row) (gives : IsTrue (tells (below mid)) → GivesRows (pages mid) (limits (below mid)).page at_root table.shape.own next later (Ok rows)) where
       more_are : IsTrue (tells (below old)) → (entries : List Entry) (used : List ℕ) → AreWhole (limits (below old)).page (pages old) → IsTableTree (pages old) (limits (below old)).page table.root entries used
-          → map as_held entries ≡ (has.before ++ rows) ++ map as_held (rows_from later entries)
+          → map (as_held table.shape.own) entries ≡ (has.before ++ rows) ++ map (as_held table.shape.own) (rows_from later entries)
       more_are told entries used whole tree =
           has.are told entries used whole tree
-          ∙ (ap (λ (l : List Row). has.before ++ l) (since old mid table.root at_root next later (Ok rows) has.stays has.same_root gives told entries used whole tree)
-          ∙ sym (append_assoc has.before rows (map as_held (rows_from later entries))))
+          ∙ (ap (λ (l : List Row). has.before ++ l) (since old mid table.root table.shape.own at_root next later (Ok rows) has.stays has.same_root gives told entries used whole tree)
+          ∙ sym (append_assoc has.before rows (map (as_held table.shape.own) (rows_from later entries))))
 
       -- a leaf of which all is given
       pub leaf_streamed : (new : P) (new_root : ℕ) (after : List Sortable) → new_root ≡ at_root → Stays below pages count failures {T = ⊤} (Ok tt) old new
-          → ((before : List Row) → given_of q before ≡ Ok found → given_of q (before ++ rows) ≡ Ok after) → HasStreamed old new q table.root new_root later after
+          → ((before : List Row) → given_of q before ≡ Ok found → given_of q (before ++ rows) ≡ Ok after) → HasStreamed old new q table new_root later after
       leaf_streamed new new_root after same stays given = record {
         stays = stays;
         same_root = same ∙ has.same_root;
@@ -101,14 +101,14 @@ module _ {P K : Type 0} (below : P → K) (tells : K → Bool) (limits : K → L
       leaf_refused view fault (Ok x) hold stay is same refused told them whole holds = absurd same
       leaf_refused view fault (Err e) hold stay is same refused told them whole holds = by (refused has.before has.given)
         where
-          all : (has.before ++ rows) ++ map as_held (rows_from later holds.entries) ≡ map as_source them
-          all = sym (more_are told holds.entries holds.used whole holds.tree) ∙ hold table.width holds.entries them holds.each
+          all : (has.before ++ rows) ++ map (as_held table.shape.own) (rows_from later holds.entries) ≡ map as_source them
+          all = sym (more_are told holds.entries holds.used whole holds.tree) ∙ hold table.shape holds.entries them holds.each
 
           by : IsRefusedBy (given_of q (has.before ++ rows)) fault → IsOutside e ⊎ (rows_over q [] (beside_rows q.sources (map as_source them ∷ [])) ≡ Err (refusal_of e))
           by (inl memory) = inl (inl (same ∙ memory))
           by (inr why) =
               inr (ap (λ (l : List Row). rows_over q [] (beside_rows q.sources (l ∷ []))) (sym all)
-              ∙ (refused_over q ((has.before ++ rows) ++ map as_held (rows_from later holds.entries)) (refusal_of fault) (stay q (has.before ++ rows) (map as_held (rows_from later holds.entries)) (refusal_of fault) is why)
+              ∙ (refused_over q ((has.before ++ rows) ++ map (as_held table.shape.own) (rows_from later holds.entries)) (refusal_of fault) (stay q (has.before ++ rows) (map (as_held table.shape.own) (rows_from later holds.entries)) (refusal_of fault) is why)
               ∙ ap (λ (f : Fault). refusal (refusal_of f)) (sym same)))
             where
               refusal : Refusal → Answer Rows
@@ -116,7 +116,7 @@ module _ {P K : Type 0} (below : P → K) (tells : K → Bool) (limits : K → L
 
   -- after the last leaf
   pub all_streamed : {X : Type 0} (view : X → Rows) (old mid : P) (q : Reading) (table : BoundSource) (at_root : ℕ) (next : Option ℤ) (found : List Sortable) (result : Result X Fault)
-      → HasStreamed old mid q table.root at_root next found → next ≡ None → HoldRows
+      → HasStreamed old mid q table at_root next found → next ≡ None → HoldRows
       → ((sources : List (Condition × List Row)) → given_rows q sources ≡ Ok found → AnswersBy view (rows_over q [] sources) result) → IsTrue (tells (below old)) → Streams view (pages old) (limits (below old)).page q table result
   all_streamed view old mid q table at_root next found result has none hold finish told rows whole holds =
       answers view (rows_over q [] (beside_rows q.sources (map as_source rows ∷ []))) result
@@ -125,15 +125,15 @@ module _ {P K : Type 0} (below : P → K) (tells : K → Bool) (limits : K → L
       all : has.before ≡ map as_source rows
       all =
           sym (append-nil has.before)
-          ∙ (ap (λ (n : Option ℤ). has.before ++ map as_held (rows_from n holds.entries)) (sym none)
-          ∙ (sym (has.are told holds.entries holds.used whole holds.tree) ∙ hold table.width holds.entries rows holds.each))
+          ∙ (ap (λ (n : Option ℤ). has.before ++ map (as_held table.shape.own) (rows_from n holds.entries)) (sym none)
+          ∙ (sym (has.are told holds.entries holds.used whole holds.tree) ∙ hold table.shape holds.entries rows holds.each))
 
 -- ---- of a database
 
 -- the rows of a query with one source
 pub bound_over : {X : Type 0} (view : X → Rows) (law : LoadsBeside) (pages : PageMap) (size : ℕ) (tables : List Table) (db : Database) (stored : Stores pages size tables db) (reading : Reading) (places : List BoundSource)
     (table : BoundSource) (result : Result X Fault) → places ≡ table ∷ [] → ArePlaced tables reading.sources places
-    → (AreWhole size pages → HasRows pages size table.root table.width (stored.rows_at table.root) → AnswersOrFails view (rows_over reading [] (beside_rows reading.sources (map as_source (stored.rows_at table.root) ∷ []))) result)
+    → (AreWhole size pages → HasRows pages size table.root table.shape (stored.rows_at table.root) → AnswersOrFails view (rows_over reading [] (beside_rows reading.sources (map as_source (stored.rows_at table.root) ∷ []))) result)
     → AnswersOrFails view (answer_of db [] reading) result
 bound_over view law pages size tables db stored reading places table result one placed answered =
     subst (λ (a : Answer Rows). AnswersOrFails view a result) (sym over) (answered stored.shared.whole held)
@@ -143,5 +143,5 @@ bound_over view law pages size tables db stored reading places table result one 
         answer_over law stored.rows_at tables db reading places stored.of_tables.lists placed
         ∙ ap (λ (them : List BoundSource). rows_over reading [] (beside_rows reading.sources (rows_in stored.rows_at them))) one
 
-    held : HasRows pages size table.root table.width (stored.rows_at table.root)
+    held : HasRows pages size table.root table.shape (stored.rows_at table.root)
     held = (subst (HaveSources pages size tables reading.sources stored.rows_at 0) one (have_sources pages size tables db stored reading.sources places placed)).0.has

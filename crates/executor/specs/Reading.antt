@@ -53,7 +53,7 @@ IsSourceOf tables sources n table = source_table tables sources n ≡ Some table
 pub record HasSource (pages : PageMap) (size : ℕ) (tables : List Table) (sources : List Named) (n : ℕ) (place : BoundSource)
     (rows : List TableRow) : Type 0 where
   pub whole : AreWhole size pages
-  pub has : HasRows pages size place.root place.width rows
+  pub has : HasRows pages size place.root place.shape rows
   pub indexed : (table : Table) → IsSourceOf tables sources n table → HasIndexed pages size place table.indexes rows
 
 -- ---- which rows of a source are read
@@ -126,7 +126,7 @@ IsLoaded tables bound = (place : BoundSource) → bound.tables ≡ place ∷ [] 
 -- What a call answered, seen by `view`, is what a query comes to over the rows of its only source, where its tree has some; or one of its
 -- refusals.
 abbrev pub Streams : {X : Type 0} → (X → List (List Value)) → PageMap → ℕ → Reading → BoundSource → Result X Fault → Type 0
-Streams view pages size reading table result = (rows : List TableRow) → AreWhole size pages → HasRows pages size table.root table.width rows
+Streams view pages size reading table result = (rows : List TableRow) → AreWhole size pages → HasRows pages size table.root table.shape rows
     → AnswersOrFails view (rows_over reading [] (beside_rows reading.sources (map as_source rows ∷ []))) result
 
 -- What a call answered of a query whose names are looked up, seen by `view`, is what the query comes to on the database that the pages store;

@@ -8,7 +8,7 @@ ghost use Rattle.sql_syntax.specs.declared.create.NewObject.TheVariants as objec
 ghost use Rattle.sql_syntax.specs.declared.statement.Statement.TheVariants as statement;
 ghost use Rattle.catalog.specs.Listed.{is_name_of, table_named, tables_of};
 ghost use Rattle.catalog.specs.declared.tables.Table.{Table as Listed};
-ghost use Rattle.query_names.specs.Creating.{IsCreateRefusal, has_rowid_key};
+ghost use Rattle.query_names.specs.Creating.{IsCreateRefusal};
 ghost use Rattle.db_pages.specs.Schema.{IsCreateOf, IsTableOf, schema_row};
 ghost use Rattle.executor.specs.Changing.{MakesChange};
 ghost use Rattle.executor.specs.Holding.{ListsIndex, ListsKeys, key_index};
@@ -81,8 +81,9 @@ fn table_of(alloc: Global, catalog: &Catalog, definition: &TableDefinition) -> R
     Ok(Table {
         name: name.copy(alloc)?,
         columns,
+        rowid_column: keys.rowid_column,
         checks,
-        keys,
+        keys: keys.indexes,
         indexes: Many::new(alloc),
         root: NO_PAGE,
         rowid: 0,
@@ -206,7 +207,6 @@ pub fn create_table<P: WritePages>(
     definition: &TableDefinition,
 ) -> R<Catalog>
     ensures made { IsTrue (P.Pages.tells (P.Pages.below pages.old))
-        → has_rowid_key definition.now ≡ false
         → IsCreateOf sql.now (object.Table definition.now)
         → MakesChange tables_of (statement.Create
         (record { sql = sql.now; object = object.Table definition.now })) (P.Pages.map pages.old)

@@ -132,7 +132,7 @@ fn streamed_rows<P: Pages>(
     let mut batch = Batch::new(alloc);
     let mut cursor = Cursor::new(table.root);
     'leaves: while cursor.next.is_some() {
-        rows = next_source_rows(alloc, pages, &mut cursor, &mut batch, rows)?;
+        rows = next_source_rows(alloc, pages, &mut cursor, &mut batch, table.shape.own, rows)?;
         give_rows(alloc, reading, &rows, &mut found)?;
     }
     finish(alloc, reading, found)

@@ -1,5 +1,5 @@
 -- The tree of a new index.
-use Rattle.std.proofs.Common.{◌≡◌, inl, refl, sym, ap, subst, ◌∙◌, ◌+◌, ℕ, ℤ, ◌<ℤ◌, int_lt, Bool, true, false, cond, ◌&&◌, List, [], ◌∷◌, length, map, Ok, Err, arith}
+use Rattle.std.proofs.Common.{◌≡◌, inl, refl, sym, subst, ◌+◌, ℕ, ℤ, ◌<ℤ◌, int_lt, Bool, true, false, cond, ◌&&◌, List, [], ◌∷◌, length, map, Ok, Err, arith}
 use Rattle.std.proofs.lemmas.Int.{ints}
 use Rattle.std.specs.List.{AllByRecursion}
 use Rattle.std.specs.Ordering.{int_cmp, is_lt}
@@ -7,11 +7,11 @@ use Rattle.std.specs.declared.cmp.Ordering.TheVariants.{Less, Equal, Greater}
 use Rattle.std.specs.Prelude.{Result, IsErrAnd, MatchResult}
 use Rattle.sqlval.specs.Faults.{IsOutside}
 use Rattle.sqlval.specs.Lists.{is_rising}
-use Rattle.sqlval.specs.declared.collation.Collation.{Collation}
 use Rattle.sqlval.specs.declared.fault.Fault.{Fault}
 use Rattle.pages.specs.Map.{PageMap}
 use Rattle.freelist.specs.Calls.{AreFree}
 use Rattle.query_names.specs.declared.queries.BoundSource.{BoundSource}
+use Rattle.catalog.specs.declared.tables.RowShape.{RowShape}
 use Rattle.row_scan.specs.Rows.{TableRow}
 use Rattle.row_scan.specs.Trees.{HasRows}
 use Rattle.row_scan.proofs.RowOrder.{rowids_rise}
@@ -76,15 +76,15 @@ entries_rise columns (row ∷ rows) apart =
     rise_with (collations columns) (indexed columns row) (entries_of_rows columns rows) (entries_rise columns rows apart.1) (adds_its_entry columns [] rows row apart).0 (entry_long columns row)
 
 -- the rows of a table's tree have entries that rise
-pub rows_entries : (pages : PageMap) (size root width : ℕ) (columns : Columns) (rows : List TableRow) → HasRows pages size root width rows → AreEntries (collations columns) (entries_of_rows columns rows)
-rows_entries pages size root width columns rows has =
-    entries_rise columns rows (are_apart rows (rowids_rise width has.entries rows (tree_rises pages size root has.entries has.used has.tree) has.each))
+pub rows_entries : (pages : PageMap) (size root : ℕ) (shape : RowShape) (columns : Columns) (rows : List TableRow) → HasRows pages size root shape rows → AreEntries (collations columns) (entries_of_rows columns rows)
+rows_entries pages size root shape columns rows has =
+    entries_rise columns rows (are_apart rows (rowids_rise shape has.entries rows (tree_rises pages size root has.entries has.used has.tree) has.each))
 
 -- ---- the call
 
 -- the rows aren't read, or memory is short
 pub not_made : (old new : PageMap) (size : ℕ) (table : BoundSource) (columns : List IndexColumn) (fault : Fault) (result : Result ℕ Fault) → IsErrAnd result (λ e. e ≡ fault)
-    → ((rows : List TableRow) (free : List ℕ) → AreFree old size free → HasRows old size table.root table.width rows → IsOutside fault) → MakesIndex old new size table columns result
+    → ((rows : List TableRow) (free : List ℕ) → AreFree old size free → HasRows old size table.root table.shape rows → IsOutside fault) → MakesIndex old new size table columns result
 not_made old new size table columns fault (Ok root) is why = absurd is
 not_made old new size table columns fault (Err e) is why = λ rows free free_are sized has. inl (inl (subst IsOutside (sym is) (why rows free free_are has)))
 
@@ -95,4 +95,4 @@ index_made old new size table columns entries result sorts fills = λ rows free 
     (let them = collations (columns_in columns) in
     let are = sorts rows free_are.whole has in
     subst (λ (l : List Entry). MatchResult result (IsFilled old new size them l free) (IsFillRefusal l)) are
-    (fills them free free_are sized (subst (λ (l : List Entry). AreEntries them l) (sym are) (rows_entries old size table.root table.width (columns_in columns) rows has))))
+    (fills them free free_are sized (subst (λ (l : List Entry). AreEntries them l) (sym are) (rows_entries old size table.root table.shape (columns_in columns) rows has))))

@@ -19,7 +19,7 @@ use Rattle.catalog.specs.declared.tables.IndexColumn.{IndexColumn}
 
 -- Of a tree of rows these are the entries, in order; or memory was short, or a disk's call failed.
 abbrev pub SortsEntries : PageMap → ℕ → BoundSource → List IndexColumn → Result (List Entry) Fault → Type 0
-SortsEntries pages size table columns result = (rows : List TableRow) → AreWhole size pages → HasRows pages size table.root table.width rows
+SortsEntries pages size table columns result = (rows : List TableRow) → AreWhole size pages → HasRows pages size table.root table.shape rows
     → MatchResult result (λ found. found ≡ entries_of_rows (columns_in columns) rows) IsOutside
 
 -- Of the entries of rows, in the order of a UNIQUE index of these columns, the answer is whether two of the rows have one key without NULL.
@@ -48,5 +48,5 @@ ComparesEntries pages size root columns should result = (there : List Entry) (us
 -- the entries of the index's tree under the root were compared with those of the table's rows
 abbrev pub ChecksEntries : PageMap → ℕ → ℕ → BoundSource → List IndexColumn → Result ⊤ Fault → Type 0
 ChecksEntries pages size root table columns result = (there : List Entry) (used : List ℕ) (rows : List TableRow) → AreWhole size pages
-    → IsIndexTree pages size root (map (λ column. column.collation) columns) there used → HasRows pages size table.root table.width rows
+    → IsIndexTree pages size root (map (λ column. column.collation) columns) there used → HasRows pages size table.root table.shape rows
     → AreThose root there (entries_of_rows (columns_in columns) rows) result

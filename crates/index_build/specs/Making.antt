@@ -20,7 +20,7 @@ use Rattle.catalog.specs.declared.tables.IndexColumn.{IndexColumn}
 -- as a tree of these entries is.
 abbrev pub MakesIndex : PageMap → PageMap → ℕ → BoundSource → List IndexColumn → Result ℕ Fault → Type 0
 MakesIndex old new size table columns result = (rows : List TableRow) (free : List ℕ) → AreFree old size free → IsPageSize size
-    → HasRows old size table.root table.width rows
+    → HasRows old size table.root table.shape rows
     → MatchResult result (IsFilled old new size (collations (columns_in columns)) (entries_of_rows (columns_in columns) rows) free)
     (IsFillRefusal (entries_of_rows (columns_in columns) rows))
 
@@ -35,5 +35,5 @@ IsMadeApart old new size columns rows free result false =
 -- rows, unless two of the rows have one key without NULL.
 abbrev pub MakesUniqueIndex : PageMap → PageMap → ℕ → BoundSource → List IndexColumn → Result ℕ Fault → Type 0
 MakesUniqueIndex old new size table columns result = (i : Index) (rows : List TableRow) (free : List ℕ) → i.is_unique ≡ true → i.columns ≡ columns_in columns
-    → AreFree old size free → IsPageSize size → HasRows old size table.root table.width rows
+    → AreFree old size free → IsPageSize size → HasRows old size table.root table.shape rows
     → IsMadeApart old new size (columns_in columns) rows free result (has_clash i rows)

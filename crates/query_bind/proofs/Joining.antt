@@ -1,9 +1,11 @@
 -- One source after another.
-use Rattle.std.proofs.Common.{◌≡◌, refl, sym, ap, subst, ◌∙◌, ◌⊎◌, inl, inr, ℕ, ◌<◌, ◌+◌, Bool, false, not, ◌||◌, List, [], ◌∷◌, ◌++◌, length, drop, map, get_or, Option, Some, None, append_assoc, arith}
+use Rattle.std.proofs.Common.{◌≡◌, refl, sym, ap, subst, ◌∙◌, ◌⊎◌, inl, inr, ℕ, zero, suc, ◌<◌, ◌≤◌, ◌+◌, Bool, true, false, not, ◌||◌, List, [], ◌∷◌, ◌++◌, length, drop, take, map, get_or, Option, Some, None, append_assoc, arith}
 use Rattle.std.specs.Prelude.{OnOk, Result, Ok, Err, option_map, unwrap_or}
 use Rattle.std.specs.List.{find}
+use Rattle.std.specs.Option.{option_eq}
+use Rattle.std.proofs.Math.Dec.{eqb, eqb-suc-suc, eqb-suc-zero, eqb-zero-suc}
 use Rattle.query_names.proofs.ColumnNames.{same_folded}
-use Rattle.std.proofs.lemmas.List.{append-nil, at_drop_more}
+use Rattle.std.proofs.lemmas.List.{append-nil, at_drop_more, length-map, take_all, take_more}
 use Rattle.std.proofs.lemmas.List.Folds.{list_any-append}
 use Rattle.sqlval.specs.Names.{folded}
 use Rattle.sqlval.specs.Refusals.{Refusal, NoSuch, refusal_of}
@@ -14,13 +16,13 @@ use Rattle.sql_syntax.specs.declared.query.Join.{Join}
 use Rattle.sql_syntax.specs.declared.query.JoinKind.{JoinKind}
 use Rattle.sql_syntax.specs.declared.query.Source.{Source}
 use Rattle.catalog.specs.Database.{Name}
-use Rattle.catalog.specs.Listed.{as_column, table_named}
+use Rattle.catalog.specs.Listed.{as_column, own_column, table_named}
 use Rattle.catalog.specs.declared.tables.Column.{Column}
 use Rattle.catalog.specs.declared.tables.Table.{Table}
 use Rattle.query_names.specs.Bound.{EachOf, IsFaultOf, columns_seen, looked_up, source_seen, column_seen}
 use Rattle.query_names.specs.Checked.{Checked, Meant, meant, faults, noted, also, known_map, ◌and_then◌}
 use Rattle.query_names.specs.Queries.{Lookup, resolve_join, resolve_sources, source_name}
-use Rattle.query_names.specs.Scopes.{source_of}
+use Rattle.query_names.specs.Scopes.{column_scope, source_of, with_rowid_at}
 use Rattle.query_names.specs.declared.queries.BoundSource.{BoundSource}
 use Rattle.query_names.specs.declared.reading.Condition.{Condition}
 use Rattle.query_names.specs.declared.scope.ScopeColumn.{ScopeColumn}
@@ -28,13 +30,49 @@ use Rattle.query_names.specs.declared.scope.ScopeSource.{ScopeSource}
 use Rattle.query_bind.specs.Named.{AreTables, ArePlaced, IsPlaced, look_among, onto_source, onto_sources, place_seen, resolve_source}
 use Rattle.query_bind.proofs.Chains.{in_front}
 
--- a table's columns, one by one
-pub columns_are : (t : Table) → map column_seen t.columns ≡ (columns_seen t).0
-columns_are t = each t.columns
+-- a table's columns, as their own type has them
+abbrev pub all_seen : Option ℕ → List Column → List ScopeColumn
+all_seen own cs = with_rowid_at own (map column_seen cs)
+
+columns_are : (t : Table) → all_seen (own_column t) t.columns ≡ (columns_seen t).0
+columns_are t = ap (λ (cs : List ScopeColumn). with_rowid_at (own_column t) cs) (each t.columns)
   where
-    each : (cs : List Column) → map column_seen cs ≡ map (λ c. (let s : ScopeColumn = record { name = Some c.name; affinity = Some c.affinity; collation = c.collation } in s)) (map as_column cs)
+    each : (cs : List Column) → map column_seen cs ≡ map column_scope (map as_column cs)
     each [] = refl
     each (c ∷ cs) = ap (λ xs. column_seen c ∷ xs) (each cs)
+
+-- the column at a place, which is that of the rowid or isn't
+abbrev pub marked : Bool → Column → ScopeColumn
+marked own c = record (column_seen c) { is_rowid = own }
+
+abbrev pub is_place : Option ℕ → ℕ → Bool
+is_place own i = option_eq eqb own (Some i)
+
+marked_at : (own : Option ℕ) (cs : List Column) (i : ℕ) (c : Column) (d : ScopeColumn) → i < length cs → c ≡ get_or cs i c → get_or (all_seen own cs) i d ≡ marked (is_place own i) c
+marked_at own [] i c d lt is = absurd (omega (arith, lt))
+marked_at None (x ∷ cs) zero c d lt is = ap column_seen (sym is)
+marked_at (Some zero) (x ∷ cs) zero c d lt is = ap (marked true) (sym is)
+marked_at (Some (suc place)) (x ∷ cs) zero c d lt is = ap column_seen (sym is) ∙ ap (λ b. marked b c) (sym (eqb-suc-zero place))
+marked_at None (x ∷ cs) (suc i) c d lt is = marked_at None cs i c d (omega (arith, lt)) is
+marked_at (Some zero) (x ∷ cs) (suc i) c d lt is = marked_at None cs i c d (omega (arith, lt)) is ∙ ap (λ b. marked b c) (sym (eqb-zero-suc i))
+marked_at (Some (suc place)) (x ∷ cs) (suc i) c d lt is = marked_at (Some place) cs i c d (omega (arith, lt)) is ∙ ap (λ b. marked b c) (sym (eqb-suc-suc place i))
+
+pub as_many : (own : Option ℕ) (cs : List Column) → length (all_seen own cs) ≡ length cs
+as_many None cs = length-map cs column_seen
+as_many (Some place) [] = refl
+as_many (Some zero) (c ∷ cs) = ap suc (length-map cs column_seen)
+as_many (Some (suc place)) (c ∷ cs) = ap suc (as_many (Some place) cs)
+
+-- one more column is seen
+pub seen_more : (own : Option ℕ) (cs : List Column) (i : ℕ) (c : Column) → i < length cs → c ≡ get_or cs i c
+    → take (i + 1) (all_seen own cs) ≡ take i (all_seen own cs) ++ marked (is_place own i) c ∷ []
+seen_more own cs i c lt is =
+    take_more (all_seen own cs) i (column_seen c) (subst (λ n. i < n) (sym (as_many own cs)) lt)
+    ∙ ap (λ s. take i (all_seen own cs) ++ s ∷ []) (marked_at own cs i c (column_seen c) lt is)
+
+-- and in the end all are
+pub all_taken : (t : Table) (i : ℕ) → length t.columns ≤ i → take i (all_seen (own_column t) t.columns) ≡ (columns_seen t).0
+all_taken t i past = take_all i (all_seen (own_column t) t.columns) (subst (λ n. n ≤ i) (sym (as_many (own_column t) t.columns)) past) ∙ columns_are t
 
 pub begins : (k : Checked (List ScopeSource × List (Name × Condition))) → onto_sources [] k ≡ k
 begins (Meant x rs) = refl

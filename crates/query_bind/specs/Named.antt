@@ -13,8 +13,7 @@ use Rattle.sql_syntax.specs.declared.query.Query.{Query}
 use Rattle.sql_syntax.specs.declared.query.ResultItem.{ResultItem}
 use Rattle.sql_syntax.specs.declared.query.Source.{Source}
 use Rattle.catalog.specs.Database.{Name}
-use Rattle.catalog.specs.Listed.{table_named}
-use Rattle.catalog.specs.declared.tables.Column.{Column}
+use Rattle.catalog.specs.Listed.{shape_of, table_named}
 use Rattle.catalog.specs.declared.tables.Table.{Table}
 use Rattle.query_names.specs.Bound.{EachOf, looked_up}
 use Rattle.query_names.specs.Checked.{Checked, Meant, good, meant, faults, noted, known_map, known_all, ◌and_then◌}
@@ -64,9 +63,9 @@ abbrev pub sources_from : Option FromClause → List Join
 sources_from None = []
 sources_from (Some f) = record { kind = join.Comma; source = f.first; condition = None } ∷ f.joins
 
--- where a table's tree begins, and how many columns it has
+-- where a table's tree begins, and how its rows lie in records
 abbrev pub place_seen : Table → BoundSource
-place_seen t = record { root = t.root; width = length t.columns }
+place_seen t = record { root = t.root; shape = shape_of t }
 
 -- the place is that of the listed table of the source's name
 abbrev pub IsPlaced : List Table → Name × Condition → BoundSource → Type 0

@@ -17,14 +17,15 @@ fn name_copy(alloc: Global, name: &Option<Name>) -> R<Option<Name>>
     }
 }
 
-/// A copy of a column.
-pub fn column_copy(alloc: Global, column: &ScopeColumn) -> R<ScopeColumn>
-    ensures { IsOrMemory (λ copy. copy ≡ column.now) result }
+/// A copy of a column, which may be another name of the rowid.
+pub fn column_copy(alloc: Global, column: &ScopeColumn, is_rowid: bool) -> R<ScopeColumn>
+    ensures { IsOrMemory (λ copy. copy ≡ record column.now { is_rowid = is_rowid }) result }
 {
     let name = name_copy(alloc, &column.name)?;
     Ok(ScopeColumn {
         name,
         affinity: column.affinity,
         collation: column.collation,
+        is_rowid,
     })
 }

@@ -31,7 +31,7 @@ use std::alloc::Global;
 #[derive(Drop)]
 pub struct BoundReading {
     pub reading: Reading,
-    /// The table of each source: the page at which its tree begins, and the number of its columns.
+    /// The table of each source: the page at which its tree begins, and how its rows lie in records.
     pub tables: Many<BoundSource>,
 }
 

@@ -6,28 +6,17 @@ ghost use Rattle.std.specs.List.{list_any};
 ghost use Rattle.sqlval.specs.Faults.{IsOrMemory};
 ghost use Rattle.sqlval.specs.Names as spelled;
 ghost use Rattle.sqlval.specs.Names.{is_same_name};
-ghost use Rattle.query_terms.specs.Terms as form;
-ghost use Rattle.query_terms.specs.declared.tree.Place.TheVariants.{At};
 ghost use Rattle.query_names.specs.Named.{IsOutside, NamesBy};
 ghost use Rattle.query_names.specs.Queries as meant;
 ghost use Rattle.query_names.specs.Queries.{cells_from, is_own, resolve_item, resolve_items, result_column, stars_from};
 ghost use Rattle.query_bind.specs.Named.{name_given};
 
 use crate::copying::column_copy;
-use query_names::{ScopeColumn, ScopeSource, bind_term, folded, missing};
-use query_terms::{Node, Place, Term, affinity, collation};
+use query_names::{ScopeColumn, ScopeSource, bind_term, cell_of, folded, missing};
+use query_terms::{Term, affinity, collation};
 use sql_syntax::{Expr, Node as Tree, ResultItem};
 use sqlval::{Fault, Misuse, Name, Object, R};
 use std::alloc::Global;
-
-/// A column of a source, at this place.
-fn cell_of(number: usize, place: usize, column: &ScopeColumn) -> Term
-    ensures { result ≡ form.Cell number (At place) column.now.affinity column.now.collation }
-{
-    Term {
-        node: Node::Cell(number, Place::At(place), column.affinity, column.collation),
-    }
-}
 
 /// Adds each column of a source.
 fn push_cells(
@@ -40,7 +29,7 @@ fn push_cells(
     ensures refused { IfErr result (λ fault. fault ≡ Fault.Memory) }
 {
     'columns: for place in 0..columns.len() {
-        let column = column_copy(alloc, &columns[place])?;
+        let column = column_copy(alloc, &columns[place], false)?;
         found.push((cell_of(number, place, &columns[place]), column))?;
     }
     Ok(())
@@ -137,6 +126,7 @@ fn push_term(
         name: name_of(alloc, tree, as_name)?,
         affinity: affinity(&term),
         collation: collation(&term),
+        is_rowid: false,
     };
     found.push((term, column))?;
     Ok(())
@@ -214,7 +204,7 @@ pub fn columns_of(alloc: Global, results: &[(Term, ScopeColumn)]) -> R<Vec<Scope
 {
     let mut found = Vec::new(alloc);
     'results: for result in results {
-        found.push(column_copy(alloc, &result.1)?)?;
+        found.push(column_copy(alloc, &result.1, result.1.is_rowid)?)?;
     }
     Ok(found)
 }

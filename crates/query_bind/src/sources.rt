@@ -1,17 +1,17 @@
 //! The sources of a query.
 
-ghost use Rattle.std.specs.Prelude.{◌≡◌, ◌++◌, ◌∷◌, [], map, IfErr, IfOk, OnOk};
+ghost use Rattle.std.specs.Prelude.{◌≡◌, ◌++◌, ◌∷◌, [], IfErr, IfOk, OnOk};
 ghost use Rattle.sqlval.specs.Faults.{IsOrMemory};
 ghost use Rattle.sqlval.specs.Names as spelled;
 ghost use Rattle.catalog.specs.Listed.{tables_of};
-ghost use Rattle.query_names.specs.Bound.{source_seen, column_seen};
+ghost use Rattle.query_names.specs.Bound.{source_seen, columns_seen};
 ghost use Rattle.query_names.specs.Named.{IsOutside, Names, NamesBy};
 ghost use Rattle.query_names.specs.Queries as meant;
 ghost use Rattle.query_names.specs.Queries.{resolve_join, resolve_sources};
 ghost use Rattle.query_bind.specs.Named.{ArePlaced, AreTables, look_among, onto_source, onto_sources};
 ghost use Rattle.query_bind.specs.Named.{place_seen, resolve_source, sources_from};
 
-use catalog::{Catalog, Column, Table};
+use catalog::{Catalog, Table};
 use query_names::{
     BoundSource, Condition, ScopeColumn, ScopeSource, bind_term, find_table, folded, scope_column,
 };
@@ -28,12 +28,15 @@ pub struct Sources {
 }
 
 /// A table's columns, as expressions see them.
-fn columns_of(alloc: Global, columns: &[Column]) -> R<Many<ScopeColumn>>
-    ensures { IsOrMemory (λ seen. seen ≡ map column_seen columns.now) result }
+fn columns_of(alloc: Global, table: &Table) -> R<Many<ScopeColumn>>
+    ensures { IsOrMemory (λ seen. seen ≡ (columns_seen table.now).0) result }
 {
+    let columns = table.columns.as_slice();
+    let own = table.own_column();
     let mut seen = Vec::new(alloc);
-    'columns: for column in columns {
-        seen.push(scope_column(alloc, column)?)?;
+    'columns: for place in 0..columns.len() {
+        let is_rowid = own == Some(place);
+        seen.push(scope_column(alloc, &columns[place], is_rowid)?)?;
     }
     Ok(Many::from_vec(seen))
 }
@@ -49,12 +52,11 @@ fn name_of(source: &Source) -> &Name
 }
 
 /// A table as a source of this name.
-#[tactic(auto, using(crate::proofs::Joining::columns_are))]
 pub fn source_of(alloc: Global, name: &Name, table: &Table) -> R<ScopeSource>
     ensures { IsOrMemory (λ seen. seen ≡ source_seen name.now table.now) result }
 {
     let name = folded(alloc, name)?;
-    let columns = columns_of(alloc, table.columns.as_slice())?;
+    let columns = columns_of(alloc, table)?;
     Ok(ScopeSource {
         name,
         columns,
@@ -102,7 +104,7 @@ fn join_table(
     found.joined.push((name, condition))?;
     found.tables.push(BoundSource {
         root: table.root,
-        width: table.columns.len(),
+        shape: table.shape(),
     })?;
     Ok(())
 }

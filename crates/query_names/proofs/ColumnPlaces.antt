@@ -1,5 +1,5 @@
 -- The place of a name among a table's columns.
-use Rattle.std.proofs.Common.{◌≡◌, refl, sym, ap, subst, ◌∙◌, ◌⊎◌, inl, inr, ℕ, suc, ◌+◌, Bool, true, false, ◌||◌, cond, if◌then◌else◌, List, [], ◌∷◌, map, Option, Some, None, arith}
+use Rattle.std.proofs.Common.{◌≡◌, refl, sym, ap, subst, ◌∙◌, ◌⊎◌, inl, inr, ℕ, zero, suc, ◌+◌, Bool, true, false, ◌||◌, cond, if◌then◌else◌, List, [], ◌∷◌, map, Option, Some, None, arith}
 use Rattle.std.specs.Prelude.{unwrap_or, is_none}
 use Rattle.std.specs.List.{list_any, position_from}
 use Rattle.std.specs.Str.{bytes_eq}
@@ -9,12 +9,12 @@ use Rattle.std.proofs.lemmas.Slice.Eq.{bytes_eq-Decides}
 use Rattle.std.specs.Char.{to_ascii_lowercase}
 use Rattle.sqlval.specs.Names.{folded, is_same_name}
 use Rattle.sqlval.specs.Refusals.{NoSuch}
-use Rattle.catalog.specs.Listed.{is_column, as_column, place_named}
+use Rattle.catalog.specs.Listed.{is_column, as_column, own_column, place_named}
 use Rattle.catalog.specs.declared.tables.Column.{Column}
 use Rattle.catalog.specs.declared.tables.Table.{Table}
 use Rattle.query_names.specs.Bound.{is_twice_named, source_seen}
 use Rattle.query_names.specs.Checked.{good, faults, the_one}
-use Rattle.query_names.specs.Scopes.{table_scope, table_source, place_of}
+use Rattle.query_names.specs.Scopes.{with_rowid_at, table_scope, table_source, place_of}
 use Rattle.query_names.specs.Tables.{without_rows}
 use Rattle.query_names.specs.declared.scope.ScopeColumn.{ScopeColumn}
 
@@ -119,9 +119,20 @@ module _ (as_name : List ℕ) (cs : List Column) (once : is_twice_named cs ≡ f
   pub no_place_among : (name : List ℕ) → is_none (place_named name cs) ≡ true → faults (place_of (table_source as_name (without_rows (map as_column cs) None [])) name) ≡ NoSuch ∷ []
   no_place_among name h = by_none (place_named name cs) (placed_from 0 name (seen cs)) (placed_is 0 name cs once) h
 
+-- a column has its name, whether or not it is another name of the rowid
+pub marked_places : (own : Option ℕ) (i : ℕ) (n : List ℕ) (cs : List ScopeColumn) → placed_from i n (with_rowid_at own cs) ≡ placed_from i n cs
+marked_places None i n cs = refl
+marked_places (Some place) i n [] = refl
+marked_places (Some zero) i n (c ∷ cs) = refl
+marked_places (Some (suc place)) i n (c ∷ cs) =
+    ap (λ (rest : List ℕ). elim c.name as (λ x. List ℕ) [ None ↦ rest | Some m ↦ (if is_same_name n m then (i ∷ rest) else rest) ]) (marked_places (Some place) (suc i) n cs)
+
 module _ (as_name : List ℕ) (t : Table) (once : is_twice_named t.columns ≡ false) where
+  same_as_unmarked : (name : List ℕ) → place_of (source_seen as_name t) name ≡ place_of (table_source as_name (without_rows (map as_column t.columns) None [])) name
+  same_as_unmarked name = ap (the_one false 0) (marked_places (own_column t) 0 name (seen t.columns))
+
   pub one_place : (name : List ℕ) → is_none (place_named name t.columns) ≡ false → place_of (source_seen as_name t) name ≡ good (column_place t.columns name)
-  one_place = one_place_among as_name t.columns once
+  one_place name h = same_as_unmarked name ∙ one_place_among as_name t.columns once name h
 
   pub no_place : (name : List ℕ) → is_none (place_named name t.columns) ≡ true → faults (place_of (source_seen as_name t) name) ≡ NoSuch ∷ []
-  no_place = no_place_among as_name t.columns once
+  no_place name h = ap faults (same_as_unmarked name) ∙ no_place_among as_name t.columns once name h

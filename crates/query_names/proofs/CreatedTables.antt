@@ -1,9 +1,11 @@
 -- What CREATE TABLE makes of a definition, and what refuses it.
-use Rattle.std.proofs.Common.{◌≡◌, refl, sym, ap, subst, ◌∙◌, ◌⊎◌, inl, inr, ℕ, zero, suc, Bool, true, false, ◌&&◌, ◌||◌, cond, filter, List, [], ◌∷◌, ◌++◌, map, Option, Some, None, arith}
+use Rattle.std.proofs.Common.{◌≡◌, refl, sym, ap, subst, ◌∙◌, ◌⊎◌, inl, inr, ℕ, zero, suc, Bool, true, false, ◌&&◌, ◌||◌, cond, filter, List, [], ◌∷◌, ◌++◌, ◌<◌, length, map, Option, Some, None, arith}
 use Rattle.std.proofs.lemmas.Bool.{false≢true}
+use Rattle.std.proofs.lemmas.Bool.Decides.{nat_tests}
+use Rattle.std.proofs.lemmas.List.{length-map}
 use Rattle.std.proofs.lemmas.List.Elements.{Contains-append_cases, Contains-append_left, Contains-append_right}
-use Rattle.std.specs.Prelude.{if◌then◌else◌, is_some}
-use Rattle.std.specs.List.{AllByRecursion, Contains, find, list_any}
+use Rattle.std.specs.Prelude.{⊤, if◌then◌else◌, is_some, nat_lt, slice_get}
+use Rattle.std.specs.List.{Contains, find, list_any}
 use Rattle.std.specs.Cmp.Lexicographic.{pointwise}
 use Rattle.sqlval.specs.Lists.{any_twice}
 use Rattle.sqlval.specs.Names.{is_same_name}
@@ -15,19 +17,17 @@ use Rattle.catalog.specs.Database as database
 use Rattle.catalog.specs.Database.{Database, Name, Object, ATable, TableColumn, name_order, object, with_object}
 use Rattle.catalog.proofs.Found.{names_listed}
 use Rattle.catalog.specs.Laws.{NamesListed}
-use Rattle.catalog.specs.Listed.{as_column, is_reserved, is_table, key_columns, with_rows}
+use Rattle.catalog.specs.Listed.{as_column, is_reserved, is_table, key_columns, own_column, place_within, with_rows}
 use Rattle.catalog.specs.declared.tables.Column.{Column}
 use Rattle.catalog.specs.declared.tables.Table.{Table}
-use Rattle.query_names.specs.Bound.{is_twice_named, source_seen}
-use Rattle.query_names.specs.Creating.{HasChecksOf, HasColumnsOf, HasKeysOf, IsRuleRefusal, KeepsNamesOnce, MakesListedTable, RefusesTableAsDefined, are_doubled, checks_known, defined, described, has_doubled, has_rowid_key, is_rowid_key, places_known, table_keys_known}
+use Rattle.query_names.specs.Bound.{is_twice_named}
+use Rattle.query_names.specs.Creating.{HasChecksOf, HasColumnsOf, HasKeysOf, IsRuleRefusal, KeepsNamesOnce, MakesListedTable, RefusesTableAsDefined, are_doubled, checks_known, defined, described, has_doubled, key_known, keys_split, rowid_place, table_keys_known}
 use Rattle.query_names.specs.Expressions.{resolve}
 use Rattle.query_names.specs.Checked.{Checked, Meant, good, meant, faults, also, both, known_all, known_map, ◌and_then◌, unless}
 use Rattle.query_names.specs.Schema.{automatic, create_table, with_objects}
-use Rattle.query_names.specs.Scopes.{resolve_places, table_source}
-use Rattle.query_names.specs.Tables.{WrittenKey, checks_of, collation_at, column_of, first_some, has_no_rowid_key, keys_of, new_source, resolve_key, rowid_key, table_made, without_rows}
-use Rattle.query_names.specs.declared.scope.ScopeSource.{ScopeSource}
-use Rattle.query_names.proofs.KeyNames.{firsts_once}
-use Rattle.query_names.proofs.TableKeys.{all_kept, map_good, no_rowid, none_first, paired, pairs_hold, unless_good, with_item}
+use Rattle.query_names.specs.Scopes.{resolve_places}
+use Rattle.query_names.specs.Tables.{WrittenKey, checks_of, collation_at, column_of, first_some, has_no_rowid_key, is_integer, keys_of, new_source, resolve_key, rowid_key, table_made, without_rows}
+use Rattle.query_names.proofs.TableKeys.{bound, each_alike, map_good, map_of_map, paired, same_first, same_others, unless_good, with_item}
 
 -- ---- doubled keys
 
@@ -123,75 +123,110 @@ named_columns (c ∷ cs) (column ∷ columns) same =
 
 -- ---- the table
 
-module _ (d : TableDefinition) (plain : has_rowid_key d ≡ false) (t : Table) (once : has_doubled d.columns ≡ false) (same : HasColumnsOf d t) (keys : HasKeysOf d t) where
-  names : map (λ (c : Column). c.name) t.columns ≡ map (λ (c : ColumnDefinition). c.name) d.columns
-  names = named_columns d.columns t.columns same
+-- a place, if there is one, is less than this
+abbrev IsBelow : ℕ → Option ℕ → Type 0
+IsBelow n None = ⊤
+IsBelow n (Some i) = i < n
 
-  alone : is_twice_named t.columns ≡ false
-  alone = ap (any_twice is_same_name) names ∙ once
+integer_there : (cs : List ColumnDefinition) (i : ℕ) → is_integer (slice_get cs i) ≡ true → i < length cs
+integer_there [] i h = absurd (false≢true h)
+integer_there (c ∷ cs) zero h = omega arith
+integer_there (c ∷ cs) (suc i) h = (let lt = integer_there cs i h in omega (arith, lt))
 
-  abbrev source : ScopeSource
-  source = new_source d.name (map as_column t.columns)
+place_below : (cs : List ColumnDefinition) (key : Bool × List (ℕ × Collation)) → IsBelow (length cs) (rowid_place cs key)
+place_below cs (false, columns) = tt
+place_below cs (true, []) = tt
+place_below cs (true, column ∷ other ∷ columns) = tt
+place_below cs (true, column ∷ []) = by_test (is_integer (slice_get cs column.0)) refl
+  where
+    by_test : (b : Bool) → is_integer (slice_get cs column.0) ≡ b → IsBelow (length cs) (cond b (Some column.0) None)
+    by_test true h = integer_there cs column.0 h
+    by_test false h = tt
 
-  source_is : source ≡ source_seen d.name t
-  source_is = ap (λ (cs : List TableColumn). table_source d.name (without_rows cs None [])) (firsts_once t.columns alone)
+first_below : (cs : List ColumnDefinition) (keys : List (Bool × List (ℕ × Collation))) → IsBelow (length cs) (first_some (rowid_place cs) keys)
+first_below cs [] = tt
+first_below cs (key ∷ keys) = by_place (rowid_place cs key) (place_below cs key) (first_below cs keys)
+  where
+    by_place : (o : Option ℕ) → IsBelow (length cs) o → IsBelow (length cs) (first_some (rowid_place cs) keys)
+        → IsBelow (length cs) (elim o as (λ x. Option ℕ) [ Some y ↦ Some y | None ↦ first_some (rowid_place cs) keys ])
+    by_place (Some i) h rest = h
+    by_place None h rest = rest
+
+module _ (d : TableDefinition) (t : Table) (once : has_doubled d.columns ≡ false) (same : HasColumnsOf d t) (keys : HasKeysOf d t) where
+  abbrev collation : ℕ → Collation
+  collation i = collation_at (map as_column t.columns) i
 
   abbrev looked : WrittenKey → Checked (List ℕ)
-  looked key = resolve_places source key.1
-
-  abbrev paired_key : List ℕ → List (ℕ × Collation)
-  paired_key is = map (λ (i : ℕ). (i, collation_at (map as_column t.columns) i)) is
+  looked key = resolve_places (new_source d.name (map as_column t.columns)) key.1
 
   abbrev pairs : Checked (List (WrittenKey × List ℕ))
   pairs = known_all (map (with_item looked) (keys_of d))
 
-  not_doubled : any_twice are_doubled (keys_of d) ≡ false
-  not_doubled = (unless_good (any_twice are_doubled (keys_of d)) Misuse (known_all (map (λ (key : WrittenKey). places_known d.name t.columns key.1) (keys_of d))) (map key_columns t.keys) keys).0
-
-  pairs_are : (ps : List (WrittenKey × List ℕ)) × (pairs ≡ good ps) × (map (λ (p : WrittenKey × List ℕ). paired_key p.1) ps ≡ map key_columns t.keys)
-  pairs_are = map_good (map (λ (p : WrittenKey × List ℕ). paired_key p.1)) pairs (map key_columns t.keys)
-      (sym (paired looked (λ k is. paired_key is) (keys_of d))
-      ∙ (unless_good (any_twice are_doubled (keys_of d)) Misuse (known_all (map (λ (key : WrittenKey). places_known d.name t.columns key.1) (keys_of d))) (map key_columns t.keys) keys).1)
-
   abbrev as_places : WrittenKey × List ℕ → Bool × List ℕ
   as_places p = (p.0.0, p.1)
+
+  abbrev as_bound_pair : WrittenKey × List ℕ → Bool × List (ℕ × Collation)
+  as_bound_pair p = bound d.columns collation (as_places p)
+
+  parts : (any_twice are_doubled (keys_of d) ≡ false) × (known_map (keys_split d.columns) (known_all (map (key_known d.name t.columns) (keys_of d))) ≡ good (t.rowid_column, map key_columns t.keys))
+  parts = unless_good (any_twice are_doubled (keys_of d)) Misuse (known_map (keys_split d.columns) (known_all (map (key_known d.name t.columns) (keys_of d)))) (t.rowid_column, map key_columns t.keys) keys
+
+  all_bound : known_all (map (key_known d.name t.columns) (keys_of d)) ≡ known_map (map as_bound_pair) pairs
+  all_bound =
+      ap known_all (each_alike (key_known d.name t.columns) (λ (key : WrittenKey). known_map (λ is. (key.0, map (λ i. (i, collation i)) is)) (looked key))
+      (λ key. map_of_map (λ places. (key.0, places)) (map (λ i. (i, collation i))) (looked key)) (keys_of d))
+      ∙ paired looked (λ (key : WrittenKey) is. (key.0, map (λ i. (i, collation i)) is)) (keys_of d)
+
+  pairs_are : (ps : List (WrittenKey × List ℕ)) × (pairs ≡ good ps) × (keys_split d.columns (map as_bound_pair ps) ≡ (t.rowid_column, map key_columns t.keys))
+  pairs_are = map_good (λ (ps : List (WrittenKey × List ℕ)). keys_split d.columns (map as_bound_pair ps)) pairs (t.rowid_column, map key_columns t.keys)
+      (sym (ap (known_map (keys_split d.columns)) all_bound ∙ map_of_map (keys_split d.columns) (map as_bound_pair) pairs) ∙ parts.1)
 
   resolved : (ps : List (WrittenKey × List ℕ)) → pairs ≡ good ps → known_all (map (λ (k : WrittenKey). known_map (λ is. (k.0, is)) (looked k)) (keys_of d)) ≡ good (map as_places ps)
   resolved ps is = paired looked (λ k is. (k.0, is)) (keys_of d) ∙ ap (known_map (map as_places)) is
 
-  all_none : (ps : List (WrittenKey × List ℕ)) → AllByRecursion (λ (p : WrittenKey × List ℕ). looked p.0 ≡ good p.1) ps → list_any (is_rowid_key d.columns) (map (λ (p : WrittenKey × List ℕ). p.0) ps) ≡ false
-      → AllByRecursion (λ (k : Bool × List ℕ). rowid_key d.columns k ≡ None) (map as_places ps)
-  all_none [] each none = tt
-  all_none (p ∷ ps) each none =
-      let both = not_either (is_rowid_key d.columns p.0) (list_any (is_rowid_key d.columns) (map (λ (p : WrittenKey × List ℕ). p.0) ps)) none in
-      (no_rowid d.columns t names alone d.name p.0 p.1 (subst (λ (s : ScopeSource). resolve_places s p.0.1 ≡ good p.1) source_is each.0) both.0, all_none ps each.1 both.1)
+  bound_mapped : (ps : List (WrittenKey × List ℕ)) → map as_bound_pair ps ≡ map (bound d.columns collation) (map as_places ps)
+  bound_mapped [] = refl
+  bound_mapped (p ∷ ps) = ap (λ zs. as_bound_pair p ∷ zs) (bound_mapped ps)
 
-  places_mapped : (ps : List (WrittenKey × List ℕ)) → map (λ (k : Bool × List ℕ). paired_key k.1) (map as_places ps) ≡ map (λ (p : WrittenKey × List ℕ). paired_key p.1) ps
-  places_mapped [] = refl
-  places_mapped (p ∷ ps) = ap (λ zs. paired_key p.1 ∷ zs) (places_mapped ps)
+  abbrev made_of : Option ℕ × List (List (ℕ × Collation)) → Checked (database.Table × List (List (ℕ × Collation)))
+  made_of parts = good (without_rows (map as_column t.columns) parts.0 t.checks, parts.1)
 
-  abbrev made_of : Option ℕ → List (Bool × List ℕ) → Checked (database.Table × List (List (ℕ × Collation)))
-  made_of own ks = good (without_rows (map as_column t.columns) own t.checks, map (λ (k : Bool × List ℕ). paired_key k.1) ks)
+  same_count : length d.columns ≡ length t.columns
+  same_count = sym (length-map d.columns (λ (c : ColumnDefinition). c.name)) ∙ (ap length (sym (named_columns d.columns t.columns same)) ∙ length-map t.columns (λ (c : Column). c.name))
 
-  keys_made : (ps : List (WrittenKey × List ℕ)) → pairs ≡ good ps → map (λ (p : WrittenKey × List ℕ). paired_key p.1) ps ≡ map key_columns t.keys
-      → made_of (first_some (rowid_key d.columns) (map as_places ps)) (filter (has_no_rowid_key d.columns) (map as_places ps)) ≡ good (with_rows t [], map key_columns t.keys)
-  keys_made ps is are =
-      let held = pairs_hold looked (keys_of d) ps is in
-      let none = all_none ps held.each (ap (list_any (is_rowid_key d.columns)) held.items ∙ plain) in
-      ap (λ (o : Option ℕ). made_of o (filter (has_no_rowid_key d.columns) (map as_places ps))) (none_first d.columns (map as_places ps) none)
-      ∙ (ap (made_of None) (all_kept d.columns (map as_places ps) none)
-      ∙ ap (λ (ks : List (List (ℕ × Collation))). good (with_rows t [], ks)) (places_mapped ps ∙ are))
+  within_columns : IsBelow (length d.columns) t.rowid_column → t.rowid_column ≡ own_column t
+  within_columns below = by_place t.rowid_column below
+    where
+      by_place : (o : Option ℕ) → IsBelow (length d.columns) o → o ≡ place_within (length t.columns) o
+      by_place None h = refl
+      by_place (Some i) h =
+          let lt : i < length t.columns = subst (λ n. i < n) same_count h in
+          let yes : nat_lt i (length t.columns) ≡ true = grind (arith, nat_tests) in
+          ap (λ (b : Bool). cond b (Some i) None) (sym yes)
+
+  keys_made : (ps : List (WrittenKey × List ℕ)) → keys_split d.columns (map as_bound_pair ps) ≡ (t.rowid_column, map key_columns t.keys)
+      → made_of (first_some (rowid_key d.columns) (map as_places ps), map (λ (k : Bool × List ℕ). map (λ i. (i, collation i)) k.1) (filter (has_no_rowid_key d.columns) (map as_places ps)))
+      ≡ good (with_rows t [], map key_columns t.keys)
+  keys_made ps are =
+      let ks = map as_places ps in
+      let first : first_some (rowid_place d.columns) (map as_bound_pair ps) ≡ t.rowid_column = ap (λ p. p.0) are in
+      let own : t.rowid_column ≡ own_column t = within_columns (subst (λ (o : Option ℕ). IsBelow (length d.columns) o) first (first_below d.columns (map as_bound_pair ps))) in
+      let split : keys_split d.columns (map (bound d.columns collation) ks) ≡ (own_column t, map key_columns t.keys) =
+      ap (keys_split d.columns) (sym (bound_mapped ps)) ∙ are ∙ ap (λ (o : Option ℕ). (o, map key_columns t.keys)) own in
+      ap (λ (o : Option ℕ). made_of (o, map (λ (k : Bool × List ℕ). map (λ i. (i, collation i)) k.1) (filter (has_no_rowid_key d.columns) ks))) (sym (same_first d.columns collation ks))
+      ∙ (ap (λ (them : List (List (ℕ × Collation))). made_of (first_some (rowid_place d.columns) (map (bound d.columns collation) ks), them)) (sym (same_others d.columns collation ks))
+      ∙ ap made_of split)
 
   pub listed_made : HasChecksOf d t → table_made d ≡ good (with_rows t [], map key_columns t.keys)
   listed_made checks =
-      let apart = neither_twice (λ (k l : WrittenKey). k.0 && l.0) (λ (k l : WrittenKey). pointwise is_same_name k.1 l.1) (keys_of d) not_doubled in
+      let apart = neither_twice (λ (k l : WrittenKey). k.0 && l.0) (λ (k l : WrittenKey). pointwise is_same_name k.1 l.1) (keys_of d) parts.0 in
       unless_false (has_doubled d.columns) Misuse _ once
       ∙ unless_false _ Misuse _ apart.0
       ∙ unless_false _ Misuse _ apart.1
       ∙ then_good (known_all (map column_of d.columns)) (map as_column t.columns) _ (known_columns d.columns t.columns same)
       ∙ then_good (checks_known d t.columns) t.checks _ checks
       ∙ then_good _ (map as_places pairs_are.0) _ (resolved pairs_are.0 pairs_are.1)
-      ∙ keys_made pairs_are.0 pairs_are.1 pairs_are.2
+      ∙ keys_made pairs_are.0 pairs_are.2
 
 -- ---- the database
 
@@ -212,8 +247,8 @@ is_added f db n o reserved taken free fresh =
     ∙ ap (λ t. known_map f (unless false Misuse (unless (is_some t) Exists (known_map (with_object db n) (good o))))) fresh
 
 pub makes_by : NamesListed → MakesListedTable
-makes_by listed_names rows_at tables db d t lists plain fresh same checks keys =
-    then_good (table_made d) (with_rows t [], map key_columns t.keys) _ (listed_made d plain t fresh.once same keys checks)
+makes_by listed_names rows_at tables db d t lists fresh same checks keys =
+    then_good (table_made d) (with_rows t [], map key_columns t.keys) _ (listed_made d t fresh.once same keys checks)
     ∙ is_added (λ after. with_objects after (automatic d.name 1 (map key_columns t.keys))) db d.name (ATable (with_rows t [])) (is_reserved d.name) (object db d.name) fresh.free
     (nothing (object db d.name) (listed_names rows_at tables db d.name lists ∙ fresh.new))
 
@@ -222,6 +257,9 @@ makes_by listed_names rows_at tables db d t lists plain fresh same checks keys =
 -- this is among its refusals
 record Has {A : Type 0} (k : Checked A) (r : Refusal) : Type 0 where
   among : Contains (faults k) r
+
+same_faults : {A B : Type 0} (f : A → B) (k : Checked A) → faults (known_map f k) ≡ faults k
+same_faults f (Meant x rs) = refl
 
 unless_has : {A : Type 0} (b : Bool) (r : Refusal) (k : Checked A) → b ≡ true → Has (unless b r k) r
 unless_has true r (Meant x ss) h = record { among = (0, omega arith, refl) }
@@ -317,7 +355,7 @@ module _ (db : Database) (d : TableDefinition) where
       by_test k (inl h) = unless_has _ Misuse _ h
       by_test k (inr h) = unless_later _ Misuse Misuse _ (unless_has _ Misuse _ h)
 
-  places_refused : (r : Refusal) (columns : List Column) → map described columns ≡ map defined d.columns → Contains (faults (known_all (map (λ (key : WrittenKey). places_known d.name columns key.1) (keys_of d)))) r
+  places_refused : (r : Refusal) (columns : List Column) → map described columns ≡ map defined d.columns → Contains (faults (known_all (map (key_known d.name columns) (keys_of d)))) r
       → Has (create_table db d) r
   places_refused r columns same h = in_rules r columns same (λ cs are.
       then_later (known_all (map (resolve false (new_source d.name cs ∷ [])) (checks_of d))) _ r
@@ -328,19 +366,18 @@ module _ (db : Database) (d : TableDefinition) where
       places : WrittenKey → Checked (List ℕ)
       places key = resolve_places (new_source d.name (map as_column columns)) key.1
 
-      same_faults : {A B : Type 0} (f : A → B) (k : Checked A) → faults (known_map f k) ≡ faults k
-      same_faults f (Meant x rs) = refl
-
-      as_resolved : Contains (faults (known_all (map (λ (key : WrittenKey). places_known d.name columns key.1) (keys_of d)))) r
+      as_resolved : Contains (faults (known_all (map (key_known d.name columns) (keys_of d)))) r
           → Contains (faults (known_all (map (resolve_key (new_source d.name (map as_column columns))) (keys_of d)))) r
       as_resolved h = subst (λ rs. Contains rs r)
-          (ap faults (paired places (λ k is. map (λ (i : ℕ). (i, collation_at (map as_column columns) i)) is) (keys_of d)) ∙ (same_faults _ (known_all (map (with_item places) (keys_of d)))
+          (ap faults (ap known_all (each_alike (key_known d.name columns) (λ (key : WrittenKey). known_map (λ is. (key.0, map (λ (i : ℕ). (i, collation_at (map as_column columns) i)) is)) (places key))
+          (λ key. map_of_map (λ them. (key.0, them)) (map (λ (i : ℕ). (i, collation_at (map as_column columns) i))) (places key)) (keys_of d))
+          ∙ paired places (λ (key : WrittenKey) is. (key.0, map (λ (i : ℕ). (i, collation_at (map as_column columns) i)) is)) (keys_of d)) ∙ (same_faults _ (known_all (map (with_item places) (keys_of d)))
           ∙ (sym (same_faults _ (known_all (map (with_item places) (keys_of d)))) ∙ sym (ap faults (paired places (λ k is. (k.0, is)) (keys_of d)))))) h
 
   key_refused : (r : Refusal) (columns : List Column) → map described columns ≡ map defined d.columns → Contains (faults (table_keys_known d columns)) r → Has (create_table db d) r
-  key_refused r columns same h = elim (unless_cases (any_twice are_doubled (keys_of d)) Misuse r (known_all (map (λ (key : WrittenKey). places_known d.name columns key.1) (keys_of d))) h) [
+  key_refused r columns same h = elim (unless_cases (any_twice are_doubled (keys_of d)) Misuse r (known_map (keys_split d.columns) (known_all (map (key_known d.name columns) (keys_of d)))) h) [
     | inl (e, twice) ↦ subst (Has (create_table db d)) (sym e) (twice_refused twice)
-    | inr rest ↦ places_refused r columns same rest
+    | inr rest ↦ places_refused r columns same (subst (λ rs. Contains rs r) (same_faults (keys_split d.columns) (known_all (map (key_known d.name columns) (keys_of d)))) rest)
   ]
 
   rule_refused : (r : Refusal) → IsRuleRefusal d r → Has (create_table db d) r

@@ -1,5 +1,5 @@
 -- The first column of each name.
-use Rattle.std.proofs.Common.{◌≡◌, refl, sym, ap, ◌∙◌, ℕ, ◌<◌, ◌+◌, Bool, true, false, not, ◌||◌, cond, List, [], ◌∷◌, ◌++◌, length, take, map, get_or, Some, None}
+use Rattle.std.proofs.Common.{◌≡◌, refl, sym, ap, ◌∙◌, ℕ, ◌<◌, ◌+◌, Bool, true, false, not, ◌||◌, cond, List, [], ◌∷◌, ◌++◌, length, take, map, get_or, None}
 use Rattle.std.proofs.lemmas.Bool.{false≢true}
 use Rattle.std.proofs.lemmas.List.{append-nil, map-append, take_more}
 use Rattle.std.proofs.lemmas.List.Elements.{filter-append}
@@ -12,7 +12,7 @@ use Rattle.catalog.specs.Database.{TableColumn}
 use Rattle.catalog.specs.Listed.{as_column, is_column}
 use Rattle.catalog.specs.declared.tables.Column.{Column}
 use Rattle.query_names.specs.Bound.{column_seen}
-use Rattle.query_names.specs.Scopes.{table_scope}
+use Rattle.query_names.specs.Scopes.{column_scope, table_scope}
 use Rattle.query_names.specs.Tables.{firsts, without_rows}
 use Rattle.query_names.specs.declared.scope.ScopeColumn.{ScopeColumn}
 use Rattle.query_names.proofs.ColumnNames.{folded_twice}
@@ -78,7 +78,7 @@ pub shown_new : (cs : List Column) (i : ℕ) (c : Column) → i < length cs → 
 shown_new cs i c lt is new =
     ap (λ xs. seen_of (firsts xs)) (one_more cs i c lt is)
     ∙ (ap seen_of (push_new (λ x y. is_same_name x.name y.name) (map as_column (take i cs)) (as_column c) (same_as c (take i cs) ∙ new))
-    ∙ map-append (λ (x : TableColumn). (let s : ScopeColumn = record { name = Some x.name; affinity = Some x.affinity; collation = x.collation } in s)) (firsts (map as_column (take i cs))) (as_column c ∷ []))
+    ∙ map-append column_scope (firsts (map as_column (take i cs))) (as_column c ∷ []))
 
 -- and another isn't
 pub shown_old : (cs : List Column) (i : ℕ) (c : Column) → i < length cs → c ≡ get_or cs i c → list_any (is_column c.name) (take i cs) ≡ true → shown (take (i + 1) cs) ≡ shown (take i cs)

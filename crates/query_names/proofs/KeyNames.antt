@@ -1,7 +1,6 @@
 -- The keys of a definition, rule by rule and name by name.
-use Rattle.std.proofs.Common.{◌≡◌, refl, sym, ap, subst, ◌∙◌, ◌⊎◌, inl, inr, ℕ, zero, suc, ◌+◌, ◌-◌, ◌<◌, ◌≤◌, Bool, true, false, not, cond, ◌&&◌, ◌||◌, List, [], ◌∷◌, ◌++◌, append_assoc, drop, flat_map, get_or, length, map, take, Option, Some, None, arith}
+use Rattle.std.proofs.Common.{◌≡◌, refl, sym, ap, subst, ◌∙◌, ◌⊎◌, inl, inr, ℕ, zero, suc, ◌+◌, ◌-◌, ◌<◌, ◌≤◌, Bool, true, false, not, cond, ◌||◌, List, [], ◌∷◌, ◌++◌, append_assoc, drop, get_or, length, map, take, Option, Some, None, arith}
 use Rattle.std.proofs.lemmas.List.{append-nil, at_drop_more, drop_all, length-drop, take_all}
-use Rattle.std.proofs.lemmas.List.Folds.{list_any-append}
 use Rattle.std.specs.Prelude.{filter, is_none, unwrap_or}
 use Rattle.std.specs.List.{Contains, list_any, position_from}
 use Rattle.std.specs.Str.{bytes_eq}
@@ -11,18 +10,15 @@ use Rattle.sqlval.specs.Refusals.{Refusal, Misuse, NoSuch, refusal_of}
 use Rattle.sqlval.specs.declared.collation.Collation.{Collation}
 use Rattle.sqlval.specs.declared.fault.Fault.{Fault}
 use Rattle.sqlval.specs.declared.fault.Fault.TheVariants.{Memory}
-use Rattle.sql_syntax.specs.declared.create.ColumnDefinition.{ColumnDefinition}
-use Rattle.sql_syntax.specs.declared.create.ColumnRule.{ColumnRule}
-use Rattle.sql_syntax.specs.declared.create.ColumnRule.TheVariants as column
 use Rattle.sql_syntax.specs.declared.create.TableDefinition.{TableDefinition}
 use Rattle.catalog.specs.Database.{Name, TableColumn}
 use Rattle.catalog.specs.Listed.{as_column, is_column, place_named}
 use Rattle.catalog.specs.declared.tables.Column.{Column}
 use Rattle.query_names.specs.Bound.{IsFaultOf, is_twice_named}
 use Rattle.query_names.specs.Checked.{Checked, Meant, also, both, faults, good, known_all, known_map, onto_list, unless}
-use Rattle.query_names.specs.Creating.{are_doubled, as_written, has_rowid_key, is_rowid_key, places_known, table_keys_known}
+use Rattle.query_names.specs.Creating.{are_doubled, as_written, key_known, keys_split, places_known, table_keys_known}
 use Rattle.query_names.specs.Scopes.{is_doubled, place_of, table_source}
-use Rattle.query_names.specs.Tables.{collation_at, column_key, firsts, is_integer, keys_of, new_source, table_key, without_rows}
+use Rattle.query_names.specs.Tables.{collation_at, firsts, keys_of, new_source, without_rows}
 use Rattle.query_names.specs.declared.keys.WrittenKey as keys
 use Rattle.query_names.proofs.ColumnNames.{folded_twice}
 use Rattle.query_names.proofs.ColumnPlaces.{column_names, no_place_among, one_place_among, or_left, or_right}
@@ -35,8 +31,8 @@ abbrev pub column_known : Name → List Column → Name → Checked (ℕ × Coll
 column_known table cs name = known_map (λ i. (i, collation_at (map as_column cs) i)) (place_of (new_source table (map as_column cs)) name)
 
 -- the columns of a key
-abbrev pub key_known : Name → List Column → keys.WrittenKey → Checked (List (ℕ × Collation))
-key_known table cs key = places_known table cs key.names.now
+abbrev pub known_key : Name → List Column → keys.WrittenKey → Checked (Bool × List (ℕ × Collation))
+known_key table cs key = key_known table cs (as_written key)
 
 -- what is known of no doubled names is known of each
 places_known_of : {A B N : Type 0} (g : A → B) (f : N → Checked A) (ns : List N) → known_map (map g) (known_all (map f ns)) ≡ known_all (map (λ n. known_map g (f n)) ns)
@@ -62,10 +58,10 @@ map_twice f g [] = refl
 map_twice f g (x ∷ xs) = ap (λ ys. f (g x) ∷ ys) (map_twice f g xs)
 
 pub each_key : (d : TableDefinition) (cs : List Column) (ws : List keys.WrittenKey) → map as_written ws ≡ keys_of d → any_twice are_doubled (map as_written ws) ≡ false
-    → known_all (map (λ key. places_known d.name cs key.names.now) ws) ≡ table_keys_known d cs
+    → known_map (keys_split d.columns) (known_all (map (λ key. key_known d.name cs (as_written key)) ws)) ≡ table_keys_known d cs
 each_key d cs ws are once =
-    ap known_all (sym (map_twice (λ key. places_known d.name cs key.1) as_written ws) ∙ ap (map (λ key. places_known d.name cs key.1)) are)
-    ∙ sym (not_refused (any_twice are_doubled (keys_of d)) Misuse (known_all (map (λ key. places_known d.name cs key.1) (keys_of d))) (ap (any_twice are_doubled) (sym are) ∙ once))
+    ap (λ keys. known_map (keys_split d.columns) (known_all keys)) (sym (map_twice (key_known d.name cs) as_written ws) ∙ ap (map (key_known d.name cs)) are)
+    ∙ sym (not_refused (any_twice are_doubled (keys_of d)) Misuse (known_map (keys_split d.columns) (known_all (map (key_known d.name cs) (keys_of d)))) (ap (any_twice are_doubled) (sym are) ∙ once))
 
 -- ---- doubled keys
 
@@ -191,54 +187,3 @@ module _ {A B : Type 0} (f : B → Checked A) (xs : List B) (i : ℕ) (x : B) (f
       subst (λ k. IsFaultOf (faults k) fault) (sym next_item)
       (mapped (λ ys. found ++ ys) (both (λ y ys. y ∷ ys) (f x) (known_all (map f (drop (i + 1) xs)))) fault
       (left (λ y ys. y ∷ ys) (f x) (known_all (map f (drop (i + 1) xs))) fault h))
-
--- ---- another name of the rowid
-
--- a test of what the items of a list stand for
-any_joined : {A B : Type 0} (p : B → Bool) (f : A → List B) (xs : List A) → list_any p (flat_map f xs) ≡ list_any (λ x. list_any p (f x)) xs
-any_joined p f [] = refl
-any_joined p f (x ∷ xs) = list_any-append p (f x) (flat_map f xs) ∙ ap (λ b. list_any p (f x) || b) (any_joined p f xs)
-
-abbrev is_primary : ColumnRule → Bool
-is_primary r = list_any (λ key. key.0) (column_key [] r)
-
-or_false : (b : Bool) → (b || false) ≡ b
-or_false true = refl
-or_false false = refl
-
-module _ (cs : List ColumnDefinition) (n : Name) where
-  abbrev is_named : Bool
-  is_named = list_any (λ c. is_same_name n c.name && is_integer (Some c)) cs
-
-  of_rule : (r : ColumnRule) → list_any (is_rowid_key cs) (column_key n r) ≡ (is_primary r && is_named)
-  of_rule column.PrimaryKey = or_false is_named
-  of_rule column.Unique = refl
-  of_rule column.NotNull = refl
-  of_rule (column.Default v) = refl
-  of_rule (column.Collate k) = refl
-  of_rule (column.Check e) = refl
-
-  both_tests : (a b c : Bool) → (a && c || b && c) ≡ ((a || b) && c)
-  both_tests true true true = refl
-  both_tests true true false = refl
-  both_tests true false c = or_false c
-  both_tests false b c = refl
-
-  of_rules : (rs : List ColumnRule) → list_any (λ r. list_any (is_rowid_key cs) (column_key n r)) rs ≡ (list_any is_primary rs && is_named)
-  of_rules [] = refl
-  of_rules (r ∷ rs) =
-      ap (λ b. b || list_any (λ r. list_any (is_rowid_key cs) (column_key n r)) rs) (of_rule r)
-      ∙ (ap (λ b. is_primary r && is_named || b) (of_rules rs)
-      ∙ both_tests (is_primary r) (list_any is_primary rs) is_named)
-
-  -- a column is one where a rule is PRIMARY KEY and its type is INTEGER
-  pub rowid_column : (rs : List ColumnRule) → list_any (is_rowid_key cs) (flat_map (column_key n) rs) ≡ (list_any is_primary rs && is_named)
-  rowid_column rs = any_joined (is_rowid_key cs) (column_key n) rs ∙ of_rules rs
-
--- the columns' keys and the table's
-pub rowid_key : (d : TableDefinition) → has_rowid_key d
-    ≡ (list_any (λ (c : ColumnDefinition). list_any (is_rowid_key d.columns) (flat_map (column_key c.name) c.rules)) d.columns || list_any (λ rule. list_any (is_rowid_key d.columns) (table_key rule)) d.rules)
-rowid_key d =
-    list_any-append (is_rowid_key d.columns) (flat_map (λ (c : ColumnDefinition). flat_map (column_key c.name) c.rules) d.columns) (flat_map table_key d.rules)
-    ∙ (ap (λ b. b || list_any (is_rowid_key d.columns) (flat_map table_key d.rules)) (any_joined (is_rowid_key d.columns) (λ (c : ColumnDefinition). flat_map (column_key c.name) c.rules) d.columns)
-    ∙ ap (λ b. list_any (λ (c : ColumnDefinition). list_any (is_rowid_key d.columns) (flat_map (column_key c.name) c.rules)) d.columns || b) (any_joined (is_rowid_key d.columns) table_key d.rules))

@@ -1,22 +1,13 @@
 -- The keys of a definition, looked up over its columns.
-use Rattle.std.proofs.Common.{◌≡◌, refl, sym, ap, subst, ◌∙◌, ℕ, suc, ◌+◌, Bool, true, false, ◌&&◌, ◌||◌, cond, filter, List, [], ◌∷◌, ◌++◌, map, Option, Some, None, arith}
-use Rattle.std.proofs.lemmas.Bool.{false≢true}
-use Rattle.std.specs.Prelude.{if◌then◌else◌, is_none, slice_get, unwrap_or}
-use Rattle.std.specs.List.{AllByRecursion, list_any, position_from}
-use Rattle.sqlval.specs.Names.{is_same_name}
-use Rattle.sqlval.specs.Refusals.{Misuse, Refusal, NoSuch}
+use Rattle.std.proofs.Common.{◌≡◌, refl, ap, subst, ◌∙◌, ℕ, Bool, true, false, cond, filter, List, [], ◌∷◌, ◌++◌, map, Option, Some, None}
+use Rattle.std.specs.Prelude.{is_none}
+use Rattle.std.specs.List.{AllByRecursion}
+use Rattle.sqlval.specs.Refusals.{Refusal}
+use Rattle.sqlval.specs.declared.collation.Collation.{Collation}
 use Rattle.sql_syntax.specs.declared.create.ColumnDefinition.{ColumnDefinition}
-use Rattle.catalog.specs.Database.{Name}
-use Rattle.catalog.specs.Listed.{place_named}
-use Rattle.catalog.specs.declared.tables.Column.{Column}
-use Rattle.catalog.specs.declared.tables.Table.{Table}
-use Rattle.query_names.specs.Bound.{is_twice_named, source_seen}
 use Rattle.query_names.specs.Checked.{Checked, Meant, both, faults, good, known_all, known_map, meant, unless}
-use Rattle.query_names.specs.Creating.{is_rowid_key}
-use Rattle.query_names.specs.Scopes.{is_doubled, place_of, resolve_places}
-use Rattle.query_names.specs.Tables.{WrittenKey, first_some, has_no_rowid_key, is_integer, rowid_key}
-use Rattle.query_names.specs.declared.scope.ScopeSource.{ScopeSource}
-use Rattle.query_names.proofs.ColumnPlaces.{no_place, one_place, or_left, or_right, same_turned}
+use Rattle.query_names.specs.Creating.{other_keys, rowid_place}
+use Rattle.query_names.specs.Tables.{first_some, has_no_rowid_key, rowid_key}
 
 -- ---- what isn't refused
 
@@ -65,94 +56,51 @@ pairs_hold {A} {B} g (k ∷ ks) ps e =
     subst (ArePairs g (k ∷ ks)) (ap (λ (p : A × B). p ∷ meant (known_all (map (with_item g) ks))) one.2 ∙ parts.2)
     (record { each = (one.1, rest.each); items = ap (λ xs. k ∷ xs) rest.items })
 
--- ---- columns whose type is INTEGER
+-- ---- keys by their columns, with and without collations
 
-found_at : {A : Type 0} (p q : A → Bool) (k j : ℕ) (xs : List A) → list_any (λ x. p x && q x) xs ≡ false → position_from p k xs ≡ Some j
-    → (i : ℕ) × (j ≡ k + i) × (x : A) × (slice_get xs i ≡ Some x) × (q x ≡ false)
-found_at p q k j [] none found = absurd cc
-found_at {A} p q k j (x ∷ xs) none found =
-    by_test (found_at p q (k + 1) j xs (or_right (p x && q x) (list_any (λ x. p x && q x) xs) none)) (p x) (or_left (p x && q x) (list_any (λ x. p x && q x) xs) none) found
-  where
-    by_test : (position_from p (k + 1) xs ≡ Some j → (i : ℕ) × (j ≡ (k + 1) + i) × (y : A) × (slice_get xs i ≡ Some y) × (q y ≡ false))
-        → (b : Bool) → (b && q x) ≡ false → cond b (Some k) (position_from p (k + 1) xs) ≡ Some j → (i : ℕ) × (j ≡ k + i) × (y : A) × (slice_get (x ∷ xs) i ≡ Some y) × (q y ≡ false)
-    by_test rest true other is = (let at : k ≡ j = cc in (0, omega (arith, at), x, refl, other))
-    by_test rest false other is = (let r = rest is in let at = r.1 in (suc r.0, omega (arith, at), r.2, r.3, r.4))
+pub map_of_map : {A B C : Type 0} (f : B → C) (g : A → B) (k : Checked A) → known_map f (known_map g k) ≡ known_map (λ x. f (g x)) k
+map_of_map f g (Meant x rs) = refl
 
-pos_map : {A B : Type 0} (p : B → Bool) (f : A → B) (k : ℕ) (xs : List A) → position_from p k (map f xs) ≡ position_from (λ x. p (f x)) k xs
-pos_map p f k [] = refl
-pos_map p f k (x ∷ xs) = ap (cond (p (f x)) (Some k)) (pos_map p f (k + 1) xs)
+pub each_alike : {A B : Type 0} (f g : A → B) (same : (x : A) → f x ≡ g x) (xs : List A) → map f xs ≡ map g xs
+each_alike f g same [] = refl
+each_alike f g same (x ∷ xs) = ap (λ y. y ∷ map f xs) (same x) ∙ ap (λ ys. g x ∷ ys) (each_alike f g same xs)
 
-any_turned : (n : Name) (cs : List ColumnDefinition) → list_any (λ c. is_same_name c.name n && is_integer (Some c)) cs ≡ list_any (λ c. is_same_name n c.name && is_integer (Some c)) cs
-any_turned n [] = refl
-any_turned n (c ∷ cs) =
-    ap (λ b. (b && is_integer (Some c)) || list_any (λ c. is_same_name c.name n && is_integer (Some c)) cs) (same_turned c.name n)
-    ∙ ap (λ b. (is_same_name n c.name && is_integer (Some c)) || b) (any_turned n cs)
+module _ (cs : List ColumnDefinition) (collation : ℕ → Collation) where
+  abbrev pub with_collations : List ℕ → List (ℕ × Collation)
+  with_collations is = map (λ i. (i, collation i)) is
 
-module _ (cs : List ColumnDefinition) (t : Table) (names : map (λ (c : Column). c.name) t.columns ≡ map (λ (c : ColumnDefinition). c.name) cs) (once : is_twice_named t.columns ≡ false) (as_name : Name) where
-  abbrev source : ScopeSource
-  source = source_seen as_name t
+  abbrev pub bound : Bool × List ℕ → Bool × List (ℕ × Collation)
+  bound key = (key.0, with_collations key.1)
 
-  same_place : (i j : ℕ) → i ≡ 0 + j → i ≡ j
-  same_place i j e = omega (arith, e)
+  places_left : (is : List ℕ) → map (λ c. c.0) (with_collations is) ≡ is
+  places_left [] = refl
+  places_left (i ∷ is) = ap (λ rest. i ∷ rest) (places_left is)
 
-  place_is : (n : Name) (i : ℕ) → place_of source n ≡ good i → place_named n t.columns ≡ Some i
-  place_is n i found = by_place (place_named n t.columns) refl
-    where
-      some_place : (p : Option ℕ) → place_named n t.columns ≡ p → is_none p ≡ false → p ≡ Some (unwrap_or p 0)
-      some_place None e h = absurd (false≢true (sym h))
-      some_place (Some p) e h = refl
+  same_place : (key : Bool × List ℕ) → rowid_place cs (bound key) ≡ rowid_key cs key
+  same_place key = ap (λ is. rowid_key cs (key.0, is)) (places_left key.1)
 
-      by_place : (p : Option ℕ) → place_named n t.columns ≡ p → place_named n t.columns ≡ Some i
-      by_place None e = absurd (none_one (sym (no_place as_name t once n (ap is_none e)) ∙ ap faults found))
-        where
-          none_one : NoSuch ∷ [] ≡ [] → ⊥
-          none_one h = absurd cc
-      by_place (Some p) e = e ∙ ap Some (ap (λ o. unwrap_or o 0) (sym e) ∙ ap meant (sym (one_place as_name t once n (ap is_none e)) ∙ found))
+  pub same_first : (keys : List (Bool × List ℕ)) → first_some (rowid_place cs) (map bound keys) ≡ first_some (rowid_key cs) keys
+  same_first [] = refl
+  same_first (key ∷ keys) =
+      ap (λ (o : Option ℕ). elim o as (λ x. Option ℕ) [ Some y ↦ Some y | None ↦ first_some (rowid_place cs) (map bound keys) ]) (same_place key)
+      ∙ ap (λ (rest : Option ℕ). elim (rowid_key cs key) as (λ x. Option ℕ) [ Some y ↦ Some y | None ↦ rest ]) (same_first keys)
 
-  not_integer : (n : Name) (i : ℕ) → place_of source n ≡ good i → list_any (λ c. is_same_name n c.name && is_integer (Some c)) cs ≡ false → is_integer (slice_get cs i) ≡ false
-  not_integer n i found none =
-      let here : position_from (λ (c : ColumnDefinition). is_same_name c.name n) 0 cs ≡ Some i =
-      sym (pos_map (λ m. is_same_name m n) (λ (c : ColumnDefinition). c.name) 0 cs)
-      ∙ (ap (position_from (λ m. is_same_name m n) 0) (sym names)
-      ∙ (pos_map (λ m. is_same_name m n) (λ (c : Column). c.name) 0 t.columns ∙ place_is n i found)) in
-      let at = found_at (λ (c : ColumnDefinition). is_same_name c.name n) (λ (c : ColumnDefinition). is_integer (Some c)) 0 i cs (any_turned n cs ∙ none) here in
-      let e = at.1 in
-      ap (λ j. is_integer (slice_get cs j)) (same_place i at.0 e) ∙ (ap is_integer at.3 ∙ at.4)
+  none_is : (o : Option ℕ) → is_none o ≡ (elim o as (λ x. Bool) [ None ↦ true | Some i ↦ false ])
+  none_is None = refl
+  none_is (Some i) = refl
 
-  pub no_rowid : (key : WrittenKey) (is : List ℕ) → resolve_places source key.1 ≡ good is → is_rowid_key cs key ≡ false → rowid_key cs (key.0, is) ≡ None
-  no_rowid (false, ns) is known none = refl
-  no_rowid (true, ns) is known none = by_names ns is (unless_good (is_doubled ns) Misuse (known_all (map (place_of source) ns)) is known).1 none
-    where
-      by_names : (ns : List Name) (is : List ℕ) → known_all (map (place_of source) ns) ≡ good is → is_rowid_key cs (true, ns) ≡ false → rowid_key cs (true, is) ≡ None
-      by_names ns [] known none = refl
-      by_names ns (i ∷ j ∷ is) known none = refl
-      by_names [] (i ∷ []) known none = absurd (other (ap meant known))
-        where
-          other : [] ≡ i ∷ [] → ⊥
-          other h = absurd cc
-      by_names (n ∷ []) (i ∷ []) known none =
-          let parts = both_parts (λ x xs. x ∷ xs) (place_of source n) (good []) (i ∷ []) known in
-          let at : meant (place_of source n) ≡ i = heads (meant (place_of source n)) i [] [] parts.2 in
-          ap (λ b. if b then Some i else None) (not_integer n i (parts.0 ∙ ap good at) none)
-        where
-          heads : (x y : ℕ) (xs ys : List ℕ) → x ∷ xs ≡ y ∷ ys → x ≡ y
-          heads x y xs ys h = cc
-      by_names (n ∷ m ∷ ns) (i ∷ []) known none =
-          let parts = both_parts (λ x xs. x ∷ xs) (place_of source n) (known_all (map (place_of source) (m ∷ ns))) (i ∷ []) known in
-          let more = both_parts (λ x xs. x ∷ xs) (place_of source m) (known_all (map (place_of source) ns)) (meant (known_all (map (place_of source) (m ∷ ns)))) parts.1 in
-          absurd (two_one (meant (place_of source n)) (meant (place_of source m)) i (meant (known_all (map (place_of source) ns))) (ap (λ xs. meant (place_of source n) ∷ xs) more.2 ∙ parts.2))
-        where
-          two_one : (x y z : ℕ) (xs : List ℕ) → x ∷ y ∷ xs ≡ z ∷ [] → ⊥
-          two_one x y z xs h = absurd cc
+  abbrev bound_others : List (Bool × List ℕ) → List (Bool × List (ℕ × Collation))
+  bound_others keys = filter (λ k. is_none (rowid_place cs k)) (map bound keys)
 
--- ---- keys of which none is the rowid
+  by_test : (key : Bool × List ℕ) (keys : List (Bool × List ℕ)) → other_keys cs (map bound keys) ≡ map (λ key. with_collations key.1) (filter (has_no_rowid_key cs) keys)
+      → (b : Bool) → map (λ (k : Bool × List (ℕ × Collation)). k.1) (cond b (bound key ∷ bound_others keys) (bound_others keys))
+      ≡ map (λ key. with_collations key.1) (cond b (key ∷ filter (has_no_rowid_key cs) keys) (filter (has_no_rowid_key cs) keys))
+  by_test key keys rest true = ap (λ them. with_collations key.1 ∷ them) rest
+  by_test key keys rest false = rest
 
-pub none_first : (cs : List ColumnDefinition) (ks : List (Bool × List ℕ)) → AllByRecursion (λ (k : Bool × List ℕ). rowid_key cs k ≡ None) ks → first_some (rowid_key cs) ks ≡ None
-none_first cs [] each = refl
-none_first cs (k ∷ ks) each = ap (λ (o : Option ℕ). elim o as (λ x. Option ℕ) [ Some y ↦ Some y | None ↦ first_some (rowid_key cs) ks ]) each.0 ∙ none_first cs ks each.1
-
-pub all_kept : (cs : List ColumnDefinition) (ks : List (Bool × List ℕ)) → AllByRecursion (λ (k : Bool × List ℕ). rowid_key cs k ≡ None) ks → filter (has_no_rowid_key cs) ks ≡ ks
-all_kept cs [] each = refl
-all_kept cs (k ∷ ks) each =
-    ap (λ (b : Bool). cond b (k ∷ filter (has_no_rowid_key cs) ks) (filter (has_no_rowid_key cs) ks)) (ap (λ (o : Option ℕ). elim o as (λ x. Bool) [ None ↦ true | Some i ↦ false ]) each.0)
-    ∙ ap (λ zs. k ∷ zs) (all_kept cs ks each.1)
+  pub same_others : (keys : List (Bool × List ℕ)) → other_keys cs (map bound keys) ≡ map (λ key. with_collations key.1) (filter (has_no_rowid_key cs) keys)
+  same_others [] = refl
+  same_others (key ∷ keys) =
+      ap (λ (b : Bool). map (λ (k : Bool × List (ℕ × Collation)). k.1) (cond b (bound key ∷ bound_others keys) (bound_others keys)))
+      (ap is_none (same_place key) ∙ none_is (rowid_key cs key))
+      ∙ by_test key keys (same_others keys) (has_no_rowid_key cs key)

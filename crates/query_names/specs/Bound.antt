@@ -20,7 +20,7 @@ use Rattle.query_names.specs.declared.scope.ScopeSource.{ScopeSource}
 
 -- a table's column, as expressions see it
 abbrev pub column_seen : Column → ScopeColumn
-column_seen c = record { name = Some (folded c.name); affinity = Some c.affinity; collation = c.collation }
+column_seen c = record { name = Some (folded c.name); affinity = Some c.affinity; collation = c.collation; is_rowid = false }
 
 -- the columns of a listed table, which has a rowid
 abbrev pub columns_seen : Table → List ScopeColumn × Bool

@@ -1,7 +1,6 @@
--- CREATE TABLE of a definition whose columns aren't other names of the rowid: the table that it makes, and what refuses it (SQL As
--- Understood By SQLite, "CREATE TABLE").
-use Rattle.std.specs.Prelude.{◌≡◌, ◌⊎◌, ◌&&◌, ◌||◌, ℕ, ℤ, Bool, true, false, List, [], ◌∷◌, ◌++◌, Some, map}
-use Rattle.std.specs.List.{Contains, list_any}
+-- CREATE TABLE of a definition: the table that it makes, and what refuses it (SQL As Understood By SQLite, "CREATE TABLE").
+use Rattle.std.specs.Prelude.{◌≡◌, ◌⊎◌, ◌&&◌, ◌||◌, ℕ, ℤ, Bool, true, false, List, [], ◌∷◌, ◌++◌, Option, filter, is_none, map}
+use Rattle.std.specs.List.{Contains}
 use Rattle.std.specs.Cmp.Lexicographic.{pointwise}
 use Rattle.sqlval.specs.Lists.{any_twice}
 use Rattle.sqlval.specs.Names.{is_same_name}
@@ -21,19 +20,12 @@ use Rattle.query_terms.specs.Terms.{Term}
 use Rattle.query_names.specs.Checked.{Checked, good, faults, known_all, known_map, onto_list, unless}
 use Rattle.query_names.specs.Expressions.{resolve}
 use Rattle.query_names.specs.Schema.{automatic, create, with_objects}
-use Rattle.query_names.specs.Tables.{WrittenKey, checks_of, collation_at, column_of, is_integer, keys_of, new_source}
+use Rattle.query_names.specs.Tables.{WrittenKey, checks_of, collation_at, column_of, first_some, keys_of, new_source, rowid_key}
 use Rattle.query_names.specs.Scopes.{resolve_places}
+use Rattle.query_names.specs.declared.keys.KnownKey.{KnownKey}
+use Rattle.query_names.specs.declared.keys.BoundKeys.{BoundKeys}
 use Rattle.query_names.specs.declared.keys.WrittenKey as keys
 use Rattle.query_names.specs.declared.scope.ScopeSource.{ScopeSource}
-
--- the key is a PRIMARY KEY of one column, whose type is the one word INTEGER
-abbrev pub is_rowid_key : List ColumnDefinition → WrittenKey → Bool
-is_rowid_key cs (true, n ∷ []) = list_any (λ c. is_same_name n c.name && is_integer (Some c)) cs
-is_rowid_key cs _ = false
-
--- one of its keys makes a column another name of the rowid
-abbrev pub has_rowid_key : TableDefinition → Bool
-has_rowid_key d = list_any (is_rowid_key d.columns) (keys_of d)
 
 -- two of the columns have one name
 abbrev pub has_doubled : List ColumnDefinition → Bool
@@ -83,13 +75,38 @@ places_known table columns names =
 abbrev pub as_written : keys.WrittenKey → WrittenKey
 as_written key = (key.is_primary, key.names.now)
 
--- the columns of each index that the keys of a definition ask for, over these columns; no two keys may be doubled
-abbrev pub table_keys_known : TableDefinition → List Column → Checked (List (List (ℕ × Collation)))
-table_keys_known d columns = unless (any_twice are_doubled (keys_of d)) Misuse (known_all (map (λ key. places_known d.name columns key.1) (keys_of d)))
+-- whether a key is primary, with its columns among those of a table
+abbrev pub key_known : Name → List Column → WrittenKey → Checked (Bool × List (ℕ × Collation))
+key_known table columns key = known_map (λ places. (key.0, places)) (places_known table columns key.1)
 
--- the table has the definition's keys
+-- a key whose columns are known
+abbrev pub as_bound : KnownKey → Bool × List (ℕ × Collation)
+as_bound key = (key.is_primary, key_columns key.columns)
+
+-- the place of the column that a key makes another name of the rowid
+abbrev pub rowid_place : List ColumnDefinition → Bool × List (ℕ × Collation) → Option ℕ
+rowid_place cs (is_primary, columns) = rowid_key cs (is_primary, map (λ c. c.0) columns)
+
+-- the columns of the keys that make none another name of the rowid
+abbrev pub other_keys : List ColumnDefinition → List (Bool × List (ℕ × Collation)) → List (List (ℕ × Collation))
+other_keys cs keys = map (λ key. key.1) (filter (λ key. is_none (rowid_place cs key)) keys)
+
+-- the place of the column that is another name of the rowid, and the columns of each index that the other keys ask for
+abbrev pub keys_split : List ColumnDefinition → List (Bool × List (ℕ × Collation)) → Option ℕ × List (List (ℕ × Collation))
+keys_split cs keys = (first_some (rowid_place cs) keys, other_keys cs keys)
+
+-- the same of keys that are bound
+abbrev pub as_keys : BoundKeys → Option ℕ × List (List (ℕ × Collation))
+as_keys keys = (keys.rowid_column, map key_columns keys.indexes)
+
+-- what the keys of a definition ask for, over these columns; no two keys may be doubled
+abbrev pub table_keys_known : TableDefinition → List Column → Checked (Option ℕ × List (List (ℕ × Collation)))
+table_keys_known d columns =
+    unless (any_twice are_doubled (keys_of d)) Misuse (known_map (keys_split d.columns) (known_all (map (key_known d.name columns) (keys_of d))))
+
+-- the table has what the definition's keys ask for
 abbrev pub HasKeysOf : TableDefinition → Table → Type 0
-HasKeysOf d t = table_keys_known d t.columns ≡ good (map key_columns t.keys)
+HasKeysOf d t = table_keys_known d t.columns ≡ good (t.rowid_column, map key_columns t.keys)
 
 -- a CHECK or a key is refused over the columns of the definition
 abbrev pub IsRuleRefusal : TableDefinition → Refusal → Type 0
@@ -110,7 +127,7 @@ IsCreateRefusal tables d r =
 -- without rows, with the indexes that its keys ask for, and not refused.
 abbrev pub MakesListedTable : Type 0
 MakesListedTable = (rows_at : ℕ → List (ℤ × List Value)) (tables : List Table) (db : Database) (d : TableDefinition) (t : Table)
-    → Lists rows_at tables db → has_rowid_key d ≡ false → IsNewBeside tables d → HasColumnsOf d t → HasChecksOf d t → HasKeysOf d t
+    → Lists rows_at tables db → IsNewBeside tables d → HasColumnsOf d t → HasChecksOf d t → HasKeysOf d t
     → create db (new.Table d) ≡ good (with_objects (with_object db d.name (ATable (with_rows t []))) (automatic d.name 1 (map key_columns t.keys)))
 
 -- Why a definition is refused beside the listed tables is among the refusals of its CREATE TABLE.

@@ -22,11 +22,10 @@ use Rattle.query_names.specs.Checked.{Checked, good, bad, meant, faults, is_good
 use Rattle.query_names.specs.declared.reading.Reading.{Reading}
 use Rattle.query_names.specs.declared.reading.Condition.{Condition}
 use Rattle.query_names.specs.declared.reading.Condition.TheVariants.{Always, Where, OrNulls}
-use Rattle.query_names.specs.Scopes.{source_of, beside}
+use Rattle.query_names.specs.Scopes.{source_of, beside, place_meant}
 use Rattle.query_names.specs.declared.scope.ScopeColumn.{ScopeColumn}
 use Rattle.query_names.specs.declared.scope.ScopeSource.{ScopeSource}
 use Rattle.query_terms.specs.Terms.{Term, Const, Cell, affinity, collation, same_term}
-use Rattle.query_terms.specs.declared.tree.Place.TheVariants.{At}
 
 -- what a table's or view's name stands for: its columns, and whether it has a rowid
 abbrev pub Lookup : Type 0
@@ -56,7 +55,7 @@ resolve_sources look before (j ∷ js) =
 -- the columns of the i-th source, as results
 abbrev pub cells_from : ℕ → ℕ → List ScopeColumn → List (Term × ScopeColumn)
 cells_from s i [] = []
-cells_from s i (c ∷ cs) = (Cell s (At i) c.affinity c.collation, c) ∷ cells_from s (suc i) cs
+cells_from s i (c ∷ cs) = (Cell s (place_meant i c) c.affinity c.collation, record c { is_rowid = false }) ∷ cells_from s (suc i) cs
 
 -- the columns of the sources of these names, as results
 abbrev pub stars_from : ℕ → (Name → Bool) → List ScopeSource → List (Term × ScopeColumn)
@@ -71,7 +70,7 @@ plain_name _ = None
 -- a result of an expression, and the column that it is
 abbrev pub result_column : Tree → Option Name → Term → Term × ScopeColumn
 result_column e as_name t =
-    (t, record { name = option_or (option_map folded as_name) (plain_name e); affinity = affinity t; collation = collation t })
+    (t, record { name = option_or (option_map folded as_name) (plain_name e); affinity = affinity t; collation = collation t; is_rowid = false })
 
 -- a source of the query itself, and of that name
 abbrev pub is_own : Option Name → ScopeSource → Bool

@@ -1,5 +1,5 @@
 -- The sources that an expression sees, and which column a name means (SQL As Understood By SQLite, "SELECT", "Determination of input data").
-use Rattle.std.specs.Prelude.{ℕ, suc, Bool, true, false, not, ◌&&◌, List, [], ◌∷◌, ◌++◌, map, length, Option, Some, None, if◌then◌else◌, ◌==◌, codes}
+use Rattle.std.specs.Prelude.{ℕ, zero, suc, Bool, true, false, not, ◌&&◌, List, [], ◌∷◌, ◌++◌, map, length, Option, Some, None, if◌then◌else◌, ◌==◌, codes}
 use Rattle.std.specs.List.{list_any}
 use Rattle.sqlval.specs.Lists.{any_twice}
 use Rattle.sqlval.specs.Names.{folded, is_same_name}
@@ -7,11 +7,12 @@ use Rattle.sqlval.specs.Refusals.{Misuse}
 use Rattle.sqlval.specs.declared.affinity.Affinity.TheVariants as kind
 use Rattle.sqlval.specs.declared.collation.Collation.TheVariants.{Binary}
 use Rattle.sqlval.specs.declared.value.Value.TheVariants.{Null}
-use Rattle.catalog.specs.Database.{Name, Table}
+use Rattle.catalog.specs.Database.{Name, Table, TableColumn}
 use Rattle.query_names.specs.declared.scope.ScopeColumn.{ScopeColumn}
 use Rattle.query_names.specs.declared.scope.ScopeSource.{ScopeSource}
 use Rattle.query_names.specs.Checked.{Checked, good, meant, is_good, known_all, unless, the_one}
 use Rattle.query_terms.specs.Terms.{Term, Const, Cell}
+use Rattle.query_terms.specs.declared.tree.Place.{Place}
 use Rattle.query_terms.specs.declared.tree.Place.TheVariants.{At, RowId}
 
 -- a source as its table or view gives it: its columns, and whether it has a rowid
@@ -29,12 +30,16 @@ abbrev pub is_named : Name → Option Name → Bool
 is_named n None = false
 is_named n (Some m) = is_same_name n m
 
+-- what stands for the column at this place: the rowid where it is another name of it
+abbrev pub place_meant : ℕ → ScopeColumn → Place
+place_meant i c = if c.is_rowid then RowId else At i
+
 -- the columns of that name
 abbrev pub named_from : ℕ → ℕ → Name → List ScopeColumn → List Term
 named_from s i n [] = []
 named_from s i n (c ∷ cs) =
     let rest = named_from s (suc i) n cs in
-    if is_named n c.name then (Cell s (At i) c.affinity c.collation ∷ rest) else rest
+    if is_named n c.name then (Cell s (place_meant i c) c.affinity c.collation ∷ rest) else rest
 
 -- the columns of that name, or else the rowid
 abbrev pub named_in : ℕ → Name → ScopeSource → List Term
@@ -56,9 +61,23 @@ found s q n (source ∷ sources) = (if fits q source then named_in s n source el
 abbrev pub resolve_column : List ScopeSource → Option Name → Name → Checked Term
 resolve_column scope q n = the_one (list_any (λ s. fits q s && not s.is_known) scope) (Const Null) (found 0 q n scope)
 
+-- a table's column
+abbrev pub column_scope : TableColumn → ScopeColumn
+column_scope c = record { name = Some c.name; affinity = Some c.affinity; collation = c.collation; is_rowid = false }
+
+abbrev marked_at : ℕ → List ScopeColumn → List ScopeColumn
+marked_at i [] = []
+marked_at zero (c ∷ cs) = record c { is_rowid = true } ∷ cs
+marked_at (suc i) (c ∷ cs) = c ∷ marked_at i cs
+
+-- the columns, where that at this place is another name of the rowid
+abbrev pub with_rowid_at : Option ℕ → List ScopeColumn → List ScopeColumn
+with_rowid_at None columns = columns
+with_rowid_at (Some place) columns = marked_at place columns
+
 -- a table's columns
 abbrev pub table_scope : Table → List ScopeColumn
-table_scope t = map (λ c. record { name = Some c.name; affinity = Some c.affinity; collation = c.collation }) t.columns
+table_scope t = with_rowid_at t.rowid_column (map column_scope t.columns)
 
 -- a table as a source
 abbrev pub table_source : Name → Table → ScopeSource

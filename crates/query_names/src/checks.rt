@@ -30,7 +30,7 @@ fn first_columns(alloc: Global, columns: &[Column]) -> R<Many<ScopeColumn>>
     'columns: for place in 0..columns.len() {
         let column = &columns[place];
         if !has_column(&columns[..place], column.name.as_str()) {
-            seen.push(scope_column(alloc, column)?)?;
+            seen.push(scope_column(alloc, column, false)?)?;
         }
     }
     Ok(Many::from_vec(seen))

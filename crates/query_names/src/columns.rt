@@ -118,7 +118,7 @@ fn push_columns(found: &mut Vec<Term>, number: usize, columns: &[ScopeColumn], n
 {
     'columns: for place in 0..columns.len() {
         if is_named(name, &columns[place].name) {
-            found.push(column_of(number, place, &columns[place]))?;
+            found.push(cell_of(number, place, &columns[place]))?;
         }
     }
     Ok(())
@@ -134,11 +134,27 @@ fn is_named(name: &Name, column: &Option<Name>) -> bool
     }
 }
 
+/// What stands for the column at a place: the rowid where it is another name of it.
+fn place_meant(place: usize, column: &ScopeColumn) -> Place
+    ensures { result ≡ meant.place_meant place column.now }
+{
+    if column.is_rowid {
+        Place::RowId
+    } else {
+        Place::At(place)
+    }
+}
+
 /// A column of a source, at this place.
-fn column_of(number: usize, place: usize, column: &ScopeColumn) -> Term
-    ensures { result ≡ term.Cell number (Place.At place) column.now.affinity column.now.collation }
+pub fn cell_of(number: usize, place: usize, column: &ScopeColumn) -> Term
+    ensures { result ≡ term.Cell number (meant.place_meant place column.now) column.now.affinity column.now.collation }
 {
     Term {
-        node: Node::Cell(number, Place::At(place), column.affinity, column.collation),
+        node: Node::Cell(
+            number,
+            place_meant(place, column),
+            column.affinity,
+            column.collation,
+        ),
     }
 }

@@ -1,6 +1,6 @@
 //! The UNIQUE and PRIMARY KEYs that a CREATE TABLE defines.
 
-ghost use Rattle.std.specs.Prelude.{◌≡◌, ◌&&◌, ◌++◌, ◌||◌, ℕ, List, [], ◌∷◌, false, true, Some, flat_map, map, IfErr, IfOk, MatchOption, OnOk};
+ghost use Rattle.std.specs.Prelude.{◌≡◌, ◌&&◌, ◌++◌, ◌||◌, ℕ, List, [], ◌∷◌, false, true, Some, flat_map, map, IfErr, IfOk, MatchOption, OnOk, slice_get};
 ghost use Rattle.std.specs.Cmp.Lexicographic.{pointwise};
 ghost use Rattle.std.specs.List.{list_any};
 ghost use Rattle.sqlval.specs.Faults.{IsNotDiskFault, IsOrMemory};
@@ -11,7 +11,7 @@ ghost use Rattle.catalog.specs.Listed.{as_column, key_columns, place_named};
 ghost use Rattle.query_names.specs.Bound.{is_twice_named};
 ghost use Rattle.query_names.specs.Checked.{known_all, known_map};
 ghost use Rattle.query_names.specs.Creating as creating;
-ghost use Rattle.query_names.specs.Creating.{as_written, places_known, table_keys_known};
+ghost use Rattle.query_names.specs.Creating.{as_bound, as_keys, as_written, key_known, places_known, table_keys_known};
 ghost use Rattle.query_names.specs.Named.{NamesBy};
 ghost use Rattle.query_names.specs.Schema as schema;
 ghost use Rattle.query_names.specs.Scopes.{place_of};
@@ -19,7 +19,7 @@ ghost use Rattle.query_names.specs.Tables as meant;
 
 use crate::inserting::has_doubled;
 use crate::names::missing;
-use catalog::{Column, IndexColumn};
+use catalog::{Column, IndexColumn, key_copy};
 use itoa::Buffer;
 use sql_syntax::{ColumnDefinition, ColumnRule, TableDefinition, TableRule};
 use sqlval::{Fault, Many, Misuse, Name, Object, R};
@@ -208,40 +208,28 @@ fn bound_key(alloc: Global, columns: &[Column], names: &[Name]) -> R<Many<IndexC
     Ok(Many::from_vec(found))
 }
 
+/// A key whose columns are known.
+#[derive(Drop)]
+struct KnownKey {
+    is_primary: bool,
+    columns: Many<IndexColumn>,
+}
+
 /// The columns of each of these keys. (What `bound_key` refuses.)
-fn bound_keys(
-    alloc: Global,
-    columns: &[Column],
-    written: &[WrittenKey<'_>],
-) -> R<Many<Many<IndexColumn>>>
+fn bound_keys(alloc: Global, columns: &[Column], written: &[WrittenKey<'_>]) -> R<Vec<KnownKey>>
     ensures keys { (table : List ℕ) → is_twice_named columns.now ≡ false
-        → NamesBy (map key_columns) (known_all (map
-        (λ key. places_known table columns.now key.names.now) written.now)) result }
+        → NamesBy (λ keys. map as_bound keys.items) (known_all (map
+        (λ key. key_known table columns.now (as_written key)) written.now)) result }
     ensures not_disk { IfErr result (λ fault. IsNotDiskFault fault) }
 {
     let mut keys = Vec::new(alloc);
     'keys: for key in written {
-        keys.push(bound_key(alloc, columns, key.names)?)?;
+        keys.push(KnownKey {
+            is_primary: key.is_primary,
+            columns: bound_key(alloc, columns, key.names)?,
+        })?;
     }
-    Ok(Many::from_vec(keys))
-}
-
-/// The columns of each index that the keys of a definition ask for, over the columns that it gives its table. (`Misuse` for two keys that are
-/// primary or of the same columns, and for a column that is named twice; `NoSuch`.)
-pub fn bind_keys(
-    alloc: Global,
-    definition: &TableDefinition,
-    columns: &[Column],
-) -> R<Many<Many<IndexColumn>>>
-    ensures names { is_twice_named columns.now ≡ false
-        → NamesBy (map key_columns) (table_keys_known definition.now columns.now) result }
-    ensures not_disk { IfErr result (λ fault. IsNotDiskFault fault) }
-{
-    let written = written_keys(alloc, definition)?;
-    if has_doubled_keys(&written) {
-        return Err(Fault::Misuse(Misuse::DoubledKey));
-    }
-    bound_keys(alloc, columns, &written)
+    Ok(keys)
 }
 
 /// Whether a column's type is the one word INTEGER.
@@ -254,77 +242,82 @@ fn is_integer(column: &ColumnDefinition) -> bool
     }
 }
 
-/// Whether a column of this name has the one word INTEGER as its type.
-fn is_integer_named(columns: &[ColumnDefinition], name: &Name) -> bool
-    ensures { result ≡ list_any (λ c. is_same_name name.now c.name && meant.is_integer (Some c)) columns.now }
+/// Whether the type of the column at a place is the one word INTEGER.
+fn is_integer_at(columns: &[ColumnDefinition], place: usize) -> bool
+    ensures { result ≡ meant.is_integer (slice_get columns.now place) }
 {
-    columns.iter().any(|column| name.is_same(column.name.as_str()) && is_integer(column))
-}
-
-/// Whether a rule of a column is PRIMARY KEY.
-fn is_primary(rule: &ColumnRule) -> bool
-    ensures { result ≡ list_any (λ key. key.0) (meant.column_key [] rule.now) }
-{
-    matches!(rule, ColumnRule::PrimaryKey)
-}
-
-/// Whether one of a column's rules is PRIMARY KEY.
-fn has_primary(rules: &[ColumnRule]) -> bool
-    ensures { result ≡ list_any (λ r. list_any (λ key. key.0) (meant.column_key [] r)) rules.now }
-{
-    rules.iter().any(|rule| is_primary(rule))
-}
-
-/// Whether a column by itself is another name of the rowid.
-fn is_rowid_column(columns: &[ColumnDefinition], column: &ColumnDefinition) -> bool
-    ensures { result ≡ list_any (creating.is_rowid_key columns.now) (flat_map
-        (meant.column_key column.now.name) column.now.rules) }
-{
-    has_primary(column.rules.as_slice()) && is_integer_named(columns, &column.name)
-}
-
-/// Whether one of these columns by itself is another name of the rowid of a table with all columns.
-fn has_rowid_column(all: &[ColumnDefinition], columns: &[ColumnDefinition]) -> bool
-    ensures { result ≡ list_any (λ c. list_any (creating.is_rowid_key all.now)
-        (flat_map (meant.column_key c.name) c.rules)) columns.now }
-{
-    columns.iter().any(|column| is_rowid_column(all, column))
-}
-
-/// Whether a rule of a table makes a column another name of the rowid.
-fn is_rowid_rule(columns: &[ColumnDefinition], rule: &TableRule) -> bool
-    ensures { result ≡ list_any (creating.is_rowid_key columns.now) (meant.table_key rule.now) }
-{
-    match rule {
-        TableRule::PrimaryKey(names) => is_rowid_list(columns, names.as_slice()),
-        _ => false,
+    match columns.get(place) {
+        Some(column) => is_integer(column),
+        None => false,
     }
 }
 
-/// Whether a PRIMARY KEY of these names makes a column another name of the rowid.
-fn is_rowid_list(columns: &[ColumnDefinition], names: &[Name]) -> bool
-    ensures { result ≡ creating.is_rowid_key columns.now (true, names.now) }
+/// The place of the column that a key makes another name of the rowid.
+fn rowid_place(columns: &[ColumnDefinition], key: &KnownKey) -> Option<usize>
+    ensures { result ≡ creating.rowid_place columns.now (as_bound key.now) }
 {
-    match names {
-        [name] => is_integer_named(columns, name),
-        _ => false,
+    match key.columns.as_slice() {
+        [column] if key.is_primary && is_integer_at(columns, column.place) => Some(column.place),
+        _ => None,
     }
 }
 
-/// Whether one of a table's rules makes a column another name of the rowid.
-fn has_rowid_rule(columns: &[ColumnDefinition], rules: &[TableRule]) -> bool
-    ensures { result ≡ list_any (λ rule. list_any (creating.is_rowid_key columns.now)
-        (meant.table_key rule)) rules.now }
+/// The place of the column that the first of these keys that does so makes another name of the rowid.
+fn first_place(columns: &[ColumnDefinition], keys: &[KnownKey]) -> Option<usize>
+    ensures { result ≡ meant.first_some (creating.rowid_place columns.now) (map as_bound keys.now) }
 {
-    rules.iter().any(|rule| is_rowid_rule(columns, rule))
+    'keys: for key in keys {
+        let place = rowid_place(columns, key);
+        if place.is_some() {
+            return place;
+        }
+    }
+    None
 }
 
-/// Whether one of the keys of a definition makes a column another name of the rowid.
-pub fn has_rowid_key(definition: &TableDefinition) -> bool
-    ensures { result ≡ creating.has_rowid_key definition.now }
+/// The columns of each of the keys that make none another name of the rowid. (`Memory` alone.)
+fn other_keys(
+    alloc: Global,
+    columns: &[ColumnDefinition],
+    keys: &[KnownKey],
+) -> R<Many<Many<IndexColumn>>>
+    ensures { IsOrMemory (λ left. map key_columns left ≡ creating.other_keys columns.now (map as_bound keys.now)) result }
 {
-    let columns = definition.columns.as_slice();
-    has_rowid_column(columns, columns) || has_rowid_rule(columns, definition.rules.as_slice())
+    let mut left = Vec::new(alloc);
+    'keys: for key in keys {
+        if rowid_place(columns, key).is_none() {
+            left.push(key_copy(alloc, key.columns.as_slice())?)?;
+        }
+    }
+    Ok(Many::from_vec(left))
+}
+
+/// What the UNIQUE and PRIMARY KEYs of a table ask for.
+#[derive(Drop)]
+pub struct BoundKeys {
+    /// The place of the column that is another name of the rowid.
+    pub rowid_column: Option<usize>,
+    /// The columns of each index.
+    pub indexes: Many<Many<IndexColumn>>,
+}
+
+/// What the keys of a definition ask for, over the columns that it gives its table. (`Misuse` for two keys that are primary or of the same
+/// columns, and for a column that is named twice; `NoSuch`.)
+pub fn bind_keys(alloc: Global, definition: &TableDefinition, columns: &[Column]) -> R<BoundKeys>
+    ensures names { is_twice_named columns.now ≡ false
+        → NamesBy as_keys (table_keys_known definition.now columns.now) result }
+    ensures not_disk { IfErr result (λ fault. IsNotDiskFault fault) }
+{
+    let written = written_keys(alloc, definition)?;
+    if has_doubled_keys(&written) {
+        return Err(Fault::Misuse(Misuse::DoubledKey));
+    }
+    let keys = bound_keys(alloc, columns, &written)?;
+    let definitions = definition.columns.as_slice();
+    Ok(BoundKeys {
+        rowid_column: first_place(definitions, &keys),
+        indexes: other_keys(alloc, definitions, &keys)?,
+    })
 }
 
 /// The name of the automatic index that a table's key of this number makes; the first key has number 1. (`Memory` alone.)

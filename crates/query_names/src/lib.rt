@@ -21,11 +21,12 @@ ghost use Rattle.query_names.specs.Laws.{CalmIsNotRefused, KnowsListed};
 
 use catalog::listed_tables_are_found;
 pub use checks::bind_checks;
+pub use columns::cell_of;
 pub use definitions::bind_columns;
 pub use expressions::bind_term;
 pub use functions::collation_named;
 pub use inserting::{BoundInsert, Target, bind_target};
-pub use keys::{automatic_name, bind_keys, has_rowid_key};
+pub use keys::{BoundKeys, automatic_name, bind_keys};
 pub use names::{find_table, missing};
 pub use queries::BoundSource;
 pub use reading::{Condition, Reading};
@@ -50,7 +51,7 @@ pub fn listed_tables_are_known()
 }
 
 /// A CREATE TABLE, beside listed tables, makes the table of the definition's columns, CHECKs and keys, with the indexes that these ask for, or
-/// is refused for each cause that there is. (A column that is another name of the rowid isn't supported.)
+/// is refused for each cause that there is.
 pub fn tables_are_created_as_defined()
     ensures makes { MakesListedTable }
     ensures refuses { RefusesTableAsDefined }

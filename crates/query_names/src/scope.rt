@@ -16,6 +16,8 @@ pub struct ScopeColumn {
     pub name: Option<Name>,
     pub affinity: Option<Affinity>,
     pub collation: Collation,
+    /// It is another name of the rowid.
+    pub is_rowid: bool,
 }
 
 /// A source that an expression sees.
@@ -39,13 +41,14 @@ pub fn folded(alloc: Global, name: &Name) -> R<Name>
     Ok(Name::from_str(alloc, text.as_str())?)
 }
 
-/// A table's column, as expressions see it. (`Memory` alone.)
-pub fn scope_column(alloc: Global, column: &Column) -> R<ScopeColumn>
-    ensures { IsOrMemory (λ seen. seen ≡ column_seen column.now) result }
+/// A table's column, as expressions see it, which may be another name of the rowid. (`Memory` alone.)
+pub fn scope_column(alloc: Global, column: &Column, is_rowid: bool) -> R<ScopeColumn>
+    ensures { IsOrMemory (λ seen. seen ≡ record (column_seen column.now) { is_rowid = is_rowid }) result }
 {
     Ok(ScopeColumn {
         name: Some(folded(alloc, &column.name)?),
         affinity: Some(column.affinity),
         collation: column.collation,
+        is_rowid,
     })
 }

@@ -1,8 +1,7 @@
 -- Expressions that are integers.
-use Rattle.std.proofs.Common.{◌≡◌, refl, sym, ap, ◌∙◌, ℤ, pos, negsuc, zero, suc, Bool, true, false, not, ◌||◌, Option, Some, None, Ok}
+use Rattle.std.proofs.Common.{◌≡◌, refl, ap, ◌∙◌, ℤ, pos, negsuc, zero, suc, true, false, Option, Some, None, Ok}
 use mathlib.Core.Bool.{true≢false}
 use Rattle.std.specs.Ordering.{int_cmp}
-use Rattle.sqlval.specs.Conversion.{word}
 use Rattle.sqlval.specs.Refusals.{Answer, ◌then◌}
 use Rattle.sqlval.specs.declared.affinity.Affinity.{Affinity}
 use Rattle.sqlval.specs.declared.affinity.Affinity.TheVariants as kind

@@ -1,5 +1,5 @@
--- The rowid of a row of a source.
-use Rattle.std.specs.Prelude.{ℤ, Option, Some, None}
+-- The rowid of a row of a source, and its values, one of which the rowid may be (SQL As Understood By SQLite, "ROWIDs and the INTEGER PRIMARY KEY").
+use Rattle.std.specs.Prelude.{ℕ, zero, suc, List, [], ◌∷◌, ℤ, Option, Some, None}
 use Rattle.sqlval.specs.declared.value.Value.{Value}
 use Rattle.sqlval.specs.declared.value.Value.TheVariants.{Null, Int}
 
@@ -7,3 +7,15 @@ use Rattle.sqlval.specs.declared.value.Value.TheVariants.{Null, Int}
 abbrev pub rowid_value : Option ℤ → Value
 rowid_value None = Null
 rowid_value (Some rowid) = Int rowid
+
+-- the values with this one at a place; where there are fewer, after as many NULLs as that takes
+abbrev pub with_at : ℕ → Value → List Value → List Value
+with_at zero value [] = value ∷ []
+with_at zero value (other ∷ values) = value ∷ values
+with_at (suc place) value [] = Null ∷ with_at place value []
+with_at (suc place) value (other ∷ values) = other ∷ with_at place value values
+
+-- the values as they are read, with the rowid at the place of its own column, where there is one
+abbrev pub with_own : Option ℕ → Value → List Value → List Value
+with_own None rowid values = values
+with_own (Some place) rowid values = with_at place rowid values

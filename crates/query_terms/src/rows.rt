@@ -1,10 +1,10 @@
 //! The rows that an expression is evaluated over.
 
-ghost use Rattle.std.specs.Prelude.{◌≡◌, [], Some, None, option_map, unwrap_or, slice_get};
+ghost use Rattle.std.specs.Prelude.{◌≡◌, [], Some, None, IfOk, OnOk, option_map, unwrap_or, slice_get};
 ghost use Rattle.sqlval.specs.declared.value.Value.TheVariants.{Null};
 ghost use Rattle.sqlval.specs.Fields.{value_of};
 ghost use Rattle.query_terms.specs.Rows.{picked_rows, row_of, seen};
-ghost use Rattle.query_terms.specs.Stored.{rowid_value};
+ghost use Rattle.query_terms.specs.Stored.{rowid_value, with_at, with_own};
 ghost use Rattle.query_terms.specs.Values as meant;
 
 use crate::places::RowPlaces;
@@ -15,21 +15,26 @@ use sqlval::{Field, Many, Value};
 use std::alloc::{AllocError, Global};
 use std::marker::Model;
 
-/// A row of a source. Its values lie in a record, out of which one is read where it is asked for: contracts see the values.
+/// A row of a source. Its values lie in a record, out of which one is read where it is asked for: contracts see the values. At the place of the
+/// rowid's own column, where there is one, the value is the rowid, whatever the record says there.
 #[derive(Drop)]
 pub struct SourceRow {
     rowid: Option<i64>,
+    own: Option<usize>,
     record: SmallVec<u8, 48>,
 }
 
 impl Model for SourceRow {
     ghost use Rattle.record.specs.Columns.{values_in};
-    ghost use Rattle.query_terms.specs.Stored.{rowid_value};
+    ghost use Rattle.query_terms.specs.Stored.{rowid_value, with_own};
     ghost use Rattle.query_terms.specs.Values.{Row};
 
     ghost Value = { Row };
 
-    ghost view = { λ row. record { rowid = rowid_value row.rowid; values = values_in row.record.items } };
+    ghost view = { λ row. record {
+      rowid = rowid_value row.rowid;
+      values = with_own row.own (rowid_value row.rowid) (values_in row.record.items);
+    } };
 }
 
 /// What an expression is evaluated over: lists of rows, and which row of each is looked at.
@@ -45,27 +50,55 @@ pub struct Env<'a> {
     pub keys: &'a [Value],
 }
 
+/// Puts a value at a place among these; where there are fewer, after as many NULLs as that takes.
+fn put_at(values: &mut Vec<Value>, place: usize, value: Value) -> Result<(), AllocError>
+    ensures { OnOk result (values.new.items ≡ with_at place value values.old.items) }
+{
+    'nulls: for _ in values.len()..place {
+        values.push(Value::Null)?;
+    }
+    if place < values.len() {
+        values[place] = value;
+    } else {
+        values.push(value)?;
+    }
+    Ok(())
+}
+
 impl SourceRow {
     ghost use Rattle.std.specs.Prelude.{IfOk, OnOk};
     ghost use Rattle.record.specs.Columns.{values_in};
-    ghost use Rattle.query_terms.specs.Stored.{rowid_value};
+    ghost use Rattle.query_terms.specs.Stored.{rowid_value, with_own};
 
-    /// The row of the record in these bytes, of which it keeps a copy. (See `record::value_at`.)
-    pub fn new(alloc: Global, rowid: Option<i64>, bytes: &[u8]) -> Result<SourceRow, AllocError>
+    /// The row of the record in these bytes, of which it keeps a copy. `own` is the place of the rowid's own column. (See `record::value_at`.)
+    pub fn new(
+        alloc: Global,
+        rowid: Option<i64>,
+        own: Option<usize>,
+        bytes: &[u8],
+    ) -> Result<SourceRow, AllocError>
         ensures { IfOk result (λ row. row ≡ record
-            { rowid = rowid_value rowid; values = values_in bytes.now }) }
+            { rowid = rowid_value rowid; values = with_own own (rowid_value rowid) (values_in bytes.now) }) }
     {
         Ok(SourceRow {
             rowid,
+            own,
             record: SmallVec::from_slice(alloc, bytes)?,
         })
     }
 
     /// The row becomes that of the record in these bytes, in the memory that it has where they fit.
-    pub fn refill(&mut self, rowid: Option<i64>, bytes: &[u8]) -> Result<(), AllocError>
-        ensures { OnOk result (self.new ≡ record { rowid = rowid_value rowid; values = values_in bytes.now }) }
+    pub fn refill(
+        &mut self,
+        rowid: Option<i64>,
+        own: Option<usize>,
+        bytes: &[u8],
+    ) -> Result<(), AllocError>
+        ensures { OnOk result (self.new ≡ record
+            { rowid = rowid_value rowid; values = with_own own (rowid_value rowid) (values_in bytes.now) }) }
     {
         self.rowid = rowid;
+        self.own = own;
         self.record.clear();
         self.record.extend_from_slice(bytes)
     }
@@ -81,7 +114,15 @@ impl SourceRow {
     pub fn values(&self, alloc: Global) -> Result<Many<Value>, AllocError>
         ensures { IfOk result (λ values. values ≡ self.now.values) }
     {
-        values_of(alloc, self.record.as_slice())
+        let values = values_of(alloc, self.record.as_slice())?;
+        match self.own {
+            Some(place) => {
+                let mut values = values.into_vec();
+                put_at(&mut values, place, rowid_field(self.rowid).to_value(alloc)?)?;
+                Ok(Many::from_vec(values))
+            }
+            None => Ok(values),
+        }
     }
 
     /// The value at a place.
@@ -90,7 +131,23 @@ impl SourceRow {
     {
         match place {
             Place::RowId => rowid_field(self.rowid),
-            Place::At(index) => value_at(self.record.as_slice(), index),
+            Place::At(index) => self.column(index),
+        }
+    }
+
+    /// The value of the column at a place.
+    fn column(&self, index: usize) -> Field<'_>
+        ensures { value_of result ≡ unwrap_or (slice_get self.now.values index) Null }
+    {
+        let held = value_at(self.record.as_slice(), index);
+        match self.own {
+            Some(place) => {
+                if place == index {
+                    return rowid_field(self.rowid);
+                }
+                held
+            }
+            None => held,
         }
     }
 }

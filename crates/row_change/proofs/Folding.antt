@@ -1,35 +1,32 @@
 -- An INSERT of rows into a listed table, row by row.
-use Rattle.std.proofs.Common.{◌≡◌, refl, sym, ap, ◌∙◌, ℕ, suc, ◌≤◌, ℤ, Bool, true, false, if◌then◌else◌, cond, List, [], ◌∷◌, ◌++◌, Option, Some, Ok, Err, map, length, append_assoc, arith}
-use Rattle.std.specs.Prelude.{zip, All}
+use Rattle.std.proofs.Common.{◌≡◌, refl, sym, ap, ◌∙◌, ℕ, suc, ◌≤◌, ℤ, Bool, true, false, if◌then◌else◌, cond, List, [], ◌∷◌, Option, None, Some, Ok, Err, map, length, arith}
+use Rattle.std.specs.Prelude.{zip, All, is_none, slice_get, slice_set, unwrap_or}
 use Rattle.std.specs.Cmp.{tied_itself}
-use Rattle.std.specs.FinMap.Entries.{put, find-put, by_order}
-use Rattle.std.specs.Ordering.{is_eq}
+use Rattle.std.specs.FinMap.Entries.{put, find, find-put, by_order}
+use Rattle.std.specs.Ordering.{int_cmp, is_eq}
 use Rattle.std.specs.declared.cmp.Ordering.{Ordering}
 use Rattle.std.specs.declared.cmp.Ordering.TheVariants.{Less, Equal, Greater}
 use Rattle.std.proofs.lemmas.Cmp.{nat_list_cmp_total}
 use Rattle.sqlval.specs.Names.{folded}
-use Rattle.std.proofs.lemmas.List.{append-nil}
-use Rattle.sqlval.specs.Refusals.{Answer, ◌then◌, NoSuch, Unique, fold_answer}
+use Rattle.sqlval.specs.Refusals.{Answer, ◌then◌, NoSuch, fold_answer}
 use Rattle.sqlval.specs.declared.value.Value.{Value}
+use Rattle.sqlval.specs.declared.value.Value.TheVariants.{Null, Int, Text, Blob}
 use Rattle.catalog.specs.Database as database
 use Rattle.catalog.specs.Database.{Name, Database, Object, ATable, object, with_object, name_order}
 use Rattle.catalog.specs.Laws.{KeepsOnlyPlain}
-use Rattle.catalog.specs.Listed.{with_rows, as_column, has_only_plain}
+use Rattle.catalog.specs.Listed.{with_rows, as_column, has_only_plain, own_column}
 use Rattle.catalog.specs.declared.tables.Table.{Table}
 use Rattle.row_scan.specs.Rows.{TableRow}
-use Rattle.row_change.specs.Agreement.{HasIndexesOf, InsertsAsAdded, InsertsRows, IsSetFor, IsStill}
-use Rattle.row_change.specs.Constraints.{can_be_stored, checks_hold, default_values, demand, next_rowid, not_null_holds, row_of, set_values, stored, table_of, with_affinity}
+use Rattle.row_change.specs.Agreement.{HasIndexesOf, InsertsRows, IsSetFor, IsStill}
+use Rattle.row_change.specs.Constraints.{can_be_stored, checks_hold, default_values, given_rowid, new_rowid, next_rowid, not_null_holds, row_of, set_values, stored, table_of, with_affinity, with_rowid}
 use Rattle.row_change.specs.Demands.{admitted, demanded, is_alone}
-use Rattle.row_change.specs.Inserting.{row_stored, rowid_after, row_added, rows_added, rows_inserted, last_rowid}
+use Rattle.row_change.specs.Inserting.{own_value, row_stored, rowid_after, rowid_given, row_added, rows_inserted, last_rowid, with_own_value}
 use Rattle.row_change.specs.RowChanges.{Fire, insert_row}
-use Rattle.row_change.proofs.Alone.{alone_is, free_alone, indexes_stay}
-use Rattle.row_change.proofs.Rising.{Rises, AreBelow, fit_rows_rise, greatest_is_last, next_for, next_is, rows_below, rises_on, last_of_more, not_found, put_behind}
-use Rattle.row_change.proofs.StoredRows.{row_parts}
+use Rattle.row_change.proofs.Alone.{alone_is, indexes_stay}
+use Rattle.row_change.proofs.Placed.{rises_put}
+use Rattle.row_change.proofs.Rising.{Rises, fit_rows_rise, greatest_is_last, next_for, next_is}
 
 -- ---- a table in a database
-
-abbrev given_row : TableRow → Answer TableRow
-given_row row = Ok row
 
 -- a table in place of another keeps a database plain
 abbrev pub KeepsTables : Type 0
@@ -41,24 +38,46 @@ tables_kept keeps db name table only = keeps db name (ATable table) only refl
 next_of : (table : Table) (rows : List TableRow) → Rises rows → next_rowid (with_rows table rows) ≡ rowid_after (last_rowid rows)
 next_of table rows rises = ap next_for (greatest_is_last rows rises) ∙ next_is (last_rowid rows)
 
--- a row that the table demands, and that is alone, is stored after the others
-pub stored_behind : (db : Database) (name : Name) (table : Table) (rows : List TableRow) (rowid : ℤ) (values : List Value) → HasIndexesOf db name table → AreBelow rowid rows
+-- a row that the table demands, and that is alone, is stored in its place
+pub stored_as : (db : Database) (name : Name) (table : Table) (rows : List TableRow) (rowid : ℤ) (values : List Value) → HasIndexesOf db name table
     → stored db name (with_rows table rows) rowid values
-    ≡ (demanded table (rowid, values) then λ row. admitted table rows row then λ row. Ok (with_object db name (ATable (with_rows table (rows ++ row ∷ [])))))
-stored_behind db name table rows rowid values has below =
-    by (not_null_holds (map as_column table.columns) values) (can_be_stored values) (checks_hold (row_of rowid values) table.checks) (is_alone table (rowid, values) rows) refl refl refl refl
+    ≡ (demanded table (rowid, values) then λ row. admitted table rows row then λ row. Ok (with_object db name (ATable (with_rows table (put int_cmp row.0 row.1 rows)))))
+stored_as db name table rows rowid values has =
+    by (not_null_holds (map as_column table.columns) values) (can_be_stored values) (checks_hold (row_of rowid values) table.checks) (is_none (find int_cmp rowid rows)) (is_alone table (rowid, values) rows)
+    refl refl refl refl refl
   where
-    by : (b c : Bool) (d : Answer (Unit {0})) (e : Bool) → not_null_holds (map as_column table.columns) values ≡ b → can_be_stored values ≡ c → checks_hold (row_of rowid values) table.checks ≡ d
-        → is_alone table (rowid, values) rows ≡ e
+    by : (b c : Bool) (d : Answer (Unit {0})) (f e : Bool) → not_null_holds (map as_column table.columns) values ≡ b → can_be_stored values ≡ c → checks_hold (row_of rowid values) table.checks ≡ d
+        → is_none (find int_cmp rowid rows) ≡ f → is_alone table (rowid, values) rows ≡ e
         → stored db name (with_rows table rows) rowid values
-        ≡ (demanded table (rowid, values) then λ row. admitted table rows row then λ row. Ok (with_object db name (ATable (with_rows table (rows ++ row ∷ [])))))
-    by true true (Ok u) true h k l m =
-        (let alone = alone_is db name table rowid values rows has ∙ m in simp (h, k, l, not_found rowid rows below, alone, m, put_behind rowid values rows below))
-    by true true (Ok u) false h k l m =
-        (let alone = alone_is db name table rowid values rows has ∙ m in simp (h, k, l, not_found rowid rows below, alone, m))
-    by true true (Err r) e h k l m = rw (h, k, l) refl
-    by true false d e h k l m = rw (h, k) refl
-    by false c d e h k l m = rw (h) refl
+        ≡ (demanded table (rowid, values) then λ row. admitted table rows row then λ row. Ok (with_object db name (ATable (with_rows table (put int_cmp row.0 row.1 rows)))))
+    by true true (Ok u) true true h k l n m = (let alone = alone_is db name table rowid values rows has ∙ m in rw (h, k, l, n, alone, m) refl)
+    by true true (Ok u) true false h k l n m = (let alone = alone_is db name table rowid values rows has ∙ m in rw (h, k, l, n, alone, m) refl)
+    by true true (Ok u) false e h k l n m = rw (h, k, l, n) refl
+    by true true (Err r) f e h k l n m = rw (h, k, l) refl
+    by true false d f e h k l n m = rw (h, k) refl
+    by false c d f e h k l n m = rw (h) refl
+
+-- ---- the rowid's own column
+
+given_is : (table : Table) (rows : List TableRow) (values : List Value) → given_rowid (with_rows table rows) values ≡ own_value (own_column table) values
+given_is table rows values = by (own_column table)
+  where
+    by : (o : Option ℕ) → (elim o as (λ x. Value) [ None ↦ Null | Some i ↦ unwrap_or (slice_get values i) Null ]) ≡ own_value o values
+    by None = refl
+    by (Some i) = refl
+
+put_is : (table : Table) (rows : List TableRow) (rowid : ℤ) (values : List Value) → with_rowid (with_rows table rows) rowid values ≡ with_own_value (own_column table) (Int rowid) values
+put_is table rows rowid values = by (own_column table)
+  where
+    by : (o : Option ℕ) → (elim o as (λ x. List Value) [ None ↦ values | Some i ↦ slice_set values i (Int rowid) ]) ≡ with_own_value o (Int rowid) values
+    by None = refl
+    by (Some i) = refl
+
+new_is : (table : Table) (rows : List TableRow) (value : Value) → Rises rows → new_rowid (with_rows table rows) value ≡ rowid_given (last_rowid rows) value
+new_is table rows Null rises = next_of table rows rises
+new_is table rows (Int rowid) rises = refl
+new_is table rows (Text t) rises = refl
+new_is table rows (Blob b) rises = refl
 
 -- ---- the database
 
@@ -93,7 +112,7 @@ module _ (fire : Fire) (name : Name) (places : List ℕ) (table : Table) (by_col
   admitted_to rows given = added_to rows given then λ row. admitted table rows row
 
   abbrev with_one : Database → List TableRow → Answer TableRow → Answer Database
-  with_one db rows row = row then λ row. Ok (having_rows db (rows ++ row ∷ []))
+  with_one db rows row = row then λ row. Ok (having_rows db (put int_cmp row.0 row.1 rows))
 
   then_all : (a : Answer TableRow) (f : TableRow → Answer TableRow) (g : TableRow → Answer Database) → ((a then f) then g) ≡ (a then λ x. f x then g)
   then_all (Ok x) f g = refl
@@ -106,48 +125,43 @@ module _ (fire : Fire) (name : Name) (places : List ℕ) (table : Table) (by_col
       stored_is : with_affinity (map as_column table.columns) (set_values (default_values (with_rows table [])) (zip places given)) ≡ row_stored table.columns by_column given
       stored_is = ap (with_affinity (map as_column table.columns)) set
 
-      by_admitted : (values : List Value) (rowid : ℤ) → row_stored table.columns by_column given ≡ Ok values → rowid_after (last_rowid rows) ≡ Ok rowid → AreBelow rowid rows
-          → (d : Answer TableRow) → (demanded table (rowid, values) then λ row. admitted table rows row) ≡ d
-          → insert_row fire name places db given ≡ with_one db rows (admitted_to rows given)
-      by_admitted values rowid e h below (Ok row) k =
-          let next : next_rowid (with_rows table rows) ≡ Ok rowid = next_of table rows rises ∙ h in
-          let put_is : stored db name (with_rows table rows) rowid values ≡ Ok (having_rows db (rows ++ row ∷ [])) =
-          stored_behind db name table rows rowid values has below ∙ sym (then_all (demanded table (rowid, values)) (admitted table rows) (λ row. Ok (having_rows db (rows ++ row ∷ []))))
-          ∙ ap (with_one db rows) k in
-          let later : has_only_plain (having_rows db (rows ++ row ∷ [])) ≡ true = keeps db name (with_rows table (rows ++ row ∷ [])) only in
-          rw (is, stored_is, e, still, is, next, put_is, still, h, k) refl
-      by_admitted values rowid e h below (Err r) k =
-          let next : next_rowid (with_rows table rows) ≡ Ok rowid = next_of table rows rises ∙ h in
-          let put_is : stored db name (with_rows table rows) rowid values ≡ Err r =
-          stored_behind db name table rows rowid values has below ∙ sym (then_all (demanded table (rowid, values)) (admitted table rows) (λ row. Ok (having_rows db (rows ++ row ∷ []))))
-          ∙ ap (with_one db rows) k in
-          rw (is, stored_is, e, still, is, next, put_is, h, k) refl
+      own : Option ℕ
+      own = own_column table
 
-      by_rowid : (values : List Value) → row_stored table.columns by_column given ≡ Ok values → (r : Answer ℤ) → rowid_after (last_rowid rows) ≡ r
+      row_with : ℤ → List Value → TableRow
+      row_with rowid values = (rowid, with_own_value own (Int rowid) values)
+
+      stored_so : (rowid : ℤ) (values : List Value) → stored db name (with_rows table rows) rowid (with_rowid (with_rows table rows) rowid values)
+          ≡ with_one db rows (demanded table (row_with rowid values) then λ row. admitted table rows row)
+      stored_so rowid values =
+          ap (stored db name (with_rows table rows) rowid) (put_is table rows rowid values)
+          ∙ (stored_as db name table rows rowid (with_own_value own (Int rowid) values) has
+          ∙ sym (then_all (demanded table (row_with rowid values)) (admitted table rows) (λ row. Ok (having_rows db (put int_cmp row.0 row.1 rows)))))
+
+      by_admitted : (values : List Value) (rowid : ℤ) → row_stored table.columns by_column given ≡ Ok values → rowid_given (last_rowid rows) (own_value own values) ≡ Ok rowid
+          → (d : Answer TableRow) → (demanded table (row_with rowid values) then λ row. admitted table rows row) ≡ d
           → insert_row fire name places db given ≡ with_one db rows (admitted_to rows given)
-      by_rowid values e (Ok rowid) h = by_admitted values rowid e h (rows_below rowid rows rises h) (demanded table (rowid, values) then λ row. admitted table rows row) refl
+      by_admitted values rowid e h (Ok row) k =
+          let next : new_rowid (with_rows table rows) (given_rowid (with_rows table rows) values) ≡ Ok rowid = ap (new_rowid (with_rows table rows)) (given_is table rows values) ∙ (new_is table rows (own_value own values) rises ∙ h) in
+          let there : stored db name (with_rows table rows) rowid (with_rowid (with_rows table rows) rowid values) ≡ Ok (having_rows db (put int_cmp row.0 row.1 rows)) =
+          stored_so rowid values ∙ ap (with_one db rows) k in
+          let later : has_only_plain (having_rows db (put int_cmp row.0 row.1 rows)) ≡ true = keeps db name (with_rows table (put int_cmp row.0 row.1 rows)) only in
+          rw (is, stored_is, e, still, is, next, there, still, h, k) refl
+      by_admitted values rowid e h (Err r) k =
+          let next : new_rowid (with_rows table rows) (given_rowid (with_rows table rows) values) ≡ Ok rowid = ap (new_rowid (with_rows table rows)) (given_is table rows values) ∙ (new_is table rows (own_value own values) rises ∙ h) in
+          let there : stored db name (with_rows table rows) rowid (with_rowid (with_rows table rows) rowid values) ≡ Err r = stored_so rowid values ∙ ap (with_one db rows) k in
+          rw (is, stored_is, e, still, is, next, there, h, k) refl
+
+      by_rowid : (values : List Value) → row_stored table.columns by_column given ≡ Ok values → (r : Answer ℤ) → rowid_given (last_rowid rows) (own_value own values) ≡ r
+          → insert_row fire name places db given ≡ with_one db rows (admitted_to rows given)
+      by_rowid values e (Ok rowid) h = by_admitted values rowid e h (demanded table (row_with rowid values) then λ row. admitted table rows row) refl
       by_rowid values e (Err r) h =
-          let next : next_rowid (with_rows table rows) ≡ Err r = next_of table rows rises ∙ h in
+          let next : new_rowid (with_rows table rows) (given_rowid (with_rows table rows) values) ≡ Err r = ap (new_rowid (with_rows table rows)) (given_is table rows values) ∙ (new_is table rows (own_value own values) rises ∙ h) in
           rw (is, stored_is, e, still, is, next, h) refl
 
       by_values : (s : Answer (List Value)) → row_stored table.columns by_column given ≡ s → insert_row fire name places db given ≡ with_one db rows (admitted_to rows given)
-      by_values (Ok values) e = by_rowid values e (rowid_after (last_rowid rows)) refl
+      by_values (Ok values) e = by_rowid values e (rowid_given (last_rowid rows) (own_value own values)) refl
       by_values (Err r) e = rw (is, stored_is, e) refl
-
-  -- the row that is admitted is the one that is added
-  as_added : (rows : List TableRow) (given : List Value) (row : TableRow) → admitted_to rows given ≡ Ok row → added_to rows given ≡ Ok row
-  as_added rows given row e = by (added_to rows given) e
-    where
-      here : (new : TableRow) (b : Bool) → (demand b Unique then λ _. given_row new) ≡ Ok row → given_row new ≡ Ok row
-      here new true h = h
-      here new false h = absurd cc
-
-      by : (a : Answer TableRow) → (a then λ row. admitted table rows row) ≡ Ok row → a ≡ Ok row
-      by (Ok new) h = here new (is_alone table new rows) h
-      by (Err r) h = absurd cc
-
-  row_rises : (rows : List TableRow) (given : List Value) (row : TableRow) → Rises rows → admitted_to rows given ≡ Ok row → Rises (rows ++ row ∷ [])
-  row_rises rows given row rises e = rises_on row.0 row.1 rows rises (rows_below row.0 rows rises (row_parts table by_column (last_rowid rows) given row (as_added rows given row e)).1)
 
   -- what is left where the rows given are these
   abbrev changed : Database → List TableRow → List (List Value) → Answer Database
@@ -155,21 +169,21 @@ module _ (fire : Fire) (name : Name) (places : List ℕ) (table : Table) (by_col
 
   -- one row is inserted, and then the others
   one_inserted : (rows : List TableRow) (given : List Value) (rest : List (List Value))
-      → rows_inserted table by_column rows (given ∷ rest) ≡ (admitted_to rows given then λ row. rows_inserted table by_column (rows ++ row ∷ []) rest)
+      → rows_inserted table by_column rows (given ∷ rest) ≡ (admitted_to rows given then λ row. rows_inserted table by_column (put int_cmp row.0 row.1 rows) rest)
   one_inserted rows given rest = by (added_to rows given)
     where
-      by : (a : Answer TableRow) → (a then λ row. admitted table rows row then λ row. rows_inserted table by_column (rows ++ row ∷ []) rest)
-          ≡ ((a then λ row. admitted table rows row) then λ row. rows_inserted table by_column (rows ++ row ∷ []) rest)
+      by : (a : Answer TableRow) → (a then λ row. admitted table rows row then λ row. rows_inserted table by_column (put int_cmp row.0 row.1 rows) rest)
+          ≡ ((a then λ row. admitted table rows row) then λ row. rows_inserted table by_column (put int_cmp row.0 row.1 rows) rest)
       by (Ok row) = refl
       by (Err r) = refl
 
   same_database : (db : Database) (rows : List TableRow) (row : TableRow) (answer : Answer (List TableRow))
-      → (answer then λ now. Ok (having_rows (having_rows db (rows ++ row ∷ [])) now)) ≡ (answer then λ now. Ok (having_rows db now))
-  same_database db rows row (Ok now) = ap (λ (d : Database). Ok d) (put_again (folded name) (ATable (with_rows table (rows ++ row ∷ []))) (ATable (with_rows table now)) db)
+      → (answer then λ now. Ok (having_rows (having_rows db (put int_cmp row.0 row.1 rows)) now)) ≡ (answer then λ now. Ok (having_rows db now))
+  same_database db rows row (Ok now) = ap (λ (d : Database). Ok d) (put_again (folded name) (ATable (with_rows table (put int_cmp row.0 row.1 rows))) (ATable (with_rows table now)) db)
   same_database db rows row (Err r) = refl
 
   one_then : (db : Database) (rows : List TableRow) (given : List Value) (rest : List (List Value)) → insert_row fire name places db given ≡ with_one db rows (admitted_to rows given)
-      → ((row : TableRow) → admitted_to rows given ≡ Ok row → fold_answer (insert_row fire name places) (having_rows db (rows ++ row ∷ [])) rest ≡ changed (having_rows db (rows ++ row ∷ [])) (rows ++ row ∷ []) rest)
+      → ((row : TableRow) → admitted_to rows given ≡ Ok row → fold_answer (insert_row fire name places) (having_rows db (put int_cmp row.0 row.1 rows)) rest ≡ changed (having_rows db (put int_cmp row.0 row.1 rows)) (put int_cmp row.0 row.1 rows) rest)
       → fold_answer (insert_row fire name places) db (given ∷ rest) ≡ changed db rows (given ∷ rest)
   one_then db rows given rest first others = by (admitted_to rows given) refl
     where
@@ -180,13 +194,13 @@ module _ (fire : Fire) (name : Name) (places : List ℕ) (table : Table) (by_col
       by (Ok row) e =
           ap (λ (a : Answer Database). a then λ b. fold_answer (insert_row fire name places) b rest) (first ∙ ap (with_one db rows) e)
           ∙ (others row e
-          ∙ (same_database db rows row (rows_inserted table by_column (rows ++ row ∷ []) rest)
+          ∙ (same_database db rows row (rows_inserted table by_column (put int_cmp row.0 row.1 rows) rest)
           ∙ sym (ap (λ (a : Answer (List TableRow)). a then λ now. Ok (having_rows db now))
-          (one_inserted rows given rest ∙ ap (λ (a : Answer TableRow). a then λ row. rows_inserted table by_column (rows ++ row ∷ []) rest) e))))
+          (one_inserted rows given rest ∙ ap (λ (a : Answer TableRow). a then λ row. rows_inserted table by_column (put int_cmp row.0 row.1 rows) rest) e))))
       by (Err r) e =
           ap (λ (a : Answer Database). a then λ b. fold_answer (insert_row fire name places) b rest) (first ∙ ap (with_one db rows) e)
           ∙ sym (ap (λ (a : Answer (List TableRow)). a then λ now. Ok (having_rows db now))
-          (one_inserted rows given rest ∙ ap (λ (a : Answer TableRow). a then λ row. rows_inserted table by_column (rows ++ row ∷ []) rest) e))
+          (one_inserted rows given rest ∙ ap (λ (a : Answer TableRow). a then λ row. rows_inserted table by_column (put int_cmp row.0 row.1 rows) rest) e))
 
   -- row by row, where the table already is in the database
   folds : (given : List (List Value)) (db : Database) (rows : List TableRow) → has_only_plain db ≡ true → HasIndexesOf db name table → table_of db name ≡ Ok (with_rows table rows) → Rises rows
@@ -194,41 +208,19 @@ module _ (fire : Fire) (name : Name) (places : List ℕ) (table : Table) (by_col
   folds [] db rows only has is rises set there = ap (λ (d : Database). Ok d) (sym there)
   folds (g ∷ given) db rows only has is rises set there =
       one_then db rows g given (row_changes db rows g only has is rises (set 0 g (omega arith)))
-      (λ row e. folds given (having_rows db (rows ++ row ∷ [])) (rows ++ row ∷ []) (keeps db name (with_rows table (rows ++ row ∷ [])) only)
-      (indexes_stay db name table (with_rows table rows) (with_rows table (rows ++ row ∷ [])) is has) (put_there db name (with_rows table (rows ++ row ∷ []))) (row_rises rows g row rises e)
-      (λ k d lt. set (suc k) d (omega (arith, lt))) (put_again (folded name) (ATable (with_rows table (rows ++ row ∷ []))) (ATable (with_rows table (rows ++ row ∷ []))) db))
+      (λ row e. folds given (having_rows db (put int_cmp row.0 row.1 rows)) (put int_cmp row.0 row.1 rows) (keeps db name (with_rows table (put int_cmp row.0 row.1 rows)) only)
+      (indexes_stay db name table (with_rows table rows) (with_rows table (put int_cmp row.0 row.1 rows)) is has) (put_there db name (with_rows table (put int_cmp row.0 row.1 rows))) (rises_put row.0 row.1 rows rises)
+      (λ k d lt. set (suc k) d (omega (arith, lt))) (put_again (folded name) (ATable (with_rows table (put int_cmp row.0 row.1 rows))) (ATable (with_rows table (put int_cmp row.0 row.1 rows))) db))
 
   some_rows : (given : List (List Value)) (db : Database) (rows : List TableRow) → has_only_plain db ≡ true → HasIndexesOf db name table → table_of db name ≡ Ok (with_rows table rows) → Rises rows
       → All (IsSetFor table by_column places) given → 1 ≤ length given → fold_answer (insert_row fire name places) db given ≡ changed db rows given
   some_rows [] db rows only has is rises set some = absurd (omega (arith, some))
   some_rows (g ∷ given) db rows only has is rises set some =
       one_then db rows g given (row_changes db rows g only has is rises (set 0 g (omega arith)))
-      (λ row e. folds given (having_rows db (rows ++ row ∷ [])) (rows ++ row ∷ []) (keeps db name (with_rows table (rows ++ row ∷ [])) only)
-      (indexes_stay db name table (with_rows table rows) (with_rows table (rows ++ row ∷ [])) is has) (put_there db name (with_rows table (rows ++ row ∷ []))) (row_rises rows g row rises e)
-      (λ k d lt. set (suc k) d (omega (arith, lt))) (put_again (folded name) (ATable (with_rows table (rows ++ row ∷ []))) (ATable (with_rows table (rows ++ row ∷ []))) db))
+      (λ row e. folds given (having_rows db (put int_cmp row.0 row.1 rows)) (put int_cmp row.0 row.1 rows) (keeps db name (with_rows table (put int_cmp row.0 row.1 rows)) only)
+      (indexes_stay db name table (with_rows table rows) (with_rows table (put int_cmp row.0 row.1 rows)) is has) (put_there db name (with_rows table (put int_cmp row.0 row.1 rows))) (rises_put row.0 row.1 rows rises)
+      (λ k d lt. set (suc k) d (omega (arith, lt))) (put_again (folded name) (ATable (with_rows table (put int_cmp row.0 row.1 rows))) (ATable (with_rows table (put int_cmp row.0 row.1 rows))) db))
 
 pub inserts_rows : KeepsOnlyPlain → InsertsRows
 inserts_rows keeps fire name places db table by_column rows given still only has is fit set some =
     some_rows fire name places table by_column still (tables_kept keeps) given db rows only has is (fit_rows_rise (with_rows table rows) fit) set some
-
--- ---- without a UNIQUE index
-
-pub inserts_as_added : InsertsAsAdded
-inserts_as_added table places rows [] none = ap (λ (rs : List TableRow). Ok rs) (sym (append-nil rows))
-inserts_as_added table places rows (given ∷ more) none = by (row_added table places (last_rowid rows) given) (λ row. inserts_as_added table places (rows ++ row ∷ []) more none)
-  where
-    longer : (row : TableRow) (answer : Answer (List TableRow))
-        → (answer then λ added. Ok ((rows ++ row ∷ []) ++ added)) ≡ ((answer then λ added. Ok (row ∷ added)) then λ added. Ok (rows ++ added))
-    longer row (Ok added) = ap (λ (rs : List TableRow). Ok rs) (append_assoc rows (row ∷ []) added)
-    longer row (Err r) = refl
-
-    by : (a : Answer TableRow)
-        → ((row : TableRow) → rows_inserted table places (rows ++ row ∷ []) more ≡ (rows_added table places (last_rowid (rows ++ row ∷ [])) more then λ added. Ok ((rows ++ row ∷ []) ++ added)))
-        → (a then λ row. admitted table rows row then λ row. rows_inserted table places (rows ++ row ∷ []) more)
-        ≡ ((a then λ row. rows_added table places (Some row.0) more then λ added. Ok (row ∷ added)) then λ added. Ok (rows ++ added))
-    by (Ok row) on =
-        ap (λ b. (demand b Unique then λ _. given_row row) then λ row. rows_inserted table places (rows ++ row ∷ []) more) (free_alone table row rows none)
-        ∙ (on row
-        ∙ (ap (λ last. rows_added table places last more then λ added. Ok ((rows ++ row ∷ []) ++ added)) (last_of_more rows row)
-        ∙ longer row (rows_added table places (Some row.0) more)))
-    by (Err r) on = refl

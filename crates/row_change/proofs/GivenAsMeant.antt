@@ -1,5 +1,5 @@
 -- What the text of an INSERT stands for, by its table among those that are listed.
-use Rattle.std.proofs.Common.{◌≡◌, refl, sym, ap, subst, ◌∙◌, inl, inr, ℕ, suc, ◌+◌, Bool, false, if◌then◌else◌, List, [], ◌∷◌, ◌++◌, length, map, Option, Some, None, arith}
+use Rattle.std.proofs.Common.{◌≡◌, refl, sym, ap, subst, ◌∙◌, inl, inr, ℕ, zero, suc, ◌+◌, Bool, false, if◌then◌else◌, List, [], ◌∷◌, ◌++◌, length, map, Option, Some, None, arith}
 use Rattle.std.specs.List.{range_with_len, Contains}
 use Rattle.std.proofs.lemmas.List.Elements.{Contains-append_left, Contains-append_right}
 use Rattle.sqlval.specs.Names.{folded}
@@ -9,13 +9,13 @@ use Rattle.sql_syntax.specs.declared.change.Change.TheVariants as change
 use Rattle.sql_syntax.specs.declared.change.Insert.{Insert}
 use Rattle.sql_syntax.specs.declared.change.InsertSource.{InsertSource}
 use Rattle.catalog.specs.Database.{Name, Database}
-use Rattle.catalog.specs.Listed.{as_column}
+use Rattle.catalog.specs.Listed.{as_column, own_column}
 use Rattle.catalog.specs.declared.tables.Column.{Column}
 use Rattle.catalog.specs.declared.tables.Table.{Table}
 use Rattle.query_names.specs.Bound.{columns_seen, count_wanted, is_twice_named, source_seen}
 use Rattle.query_names.specs.Inserts.{AreColumns, IsListRefusal, places_in}
 use Rattle.query_names.specs.Checked.{Checked, Meant, good, bad, faults, noted, also, both, ◌and_then◌}
-use Rattle.query_names.specs.Scopes.{source_of, resolve_places, table_scope}
+use Rattle.query_names.specs.Scopes.{source_of, resolve_places, table_scope, with_rowid_at}
 use Rattle.query_names.specs.declared.scope.ScopeColumn.{ScopeColumn}
 use Rattle.query_names.specs.declared.scope.ScopeSource.{ScopeSource}
 use Rattle.query_names.specs.Views.{look_up}
@@ -73,6 +73,19 @@ all_is : (i : ℕ) (cs : List Column) → all_from i (seen cs) ≡ map (λ p. p)
 all_is i [] = refl
 all_is i (c ∷ cs) = ap (λ ps. i ∷ ps) (ap (λ j. all_from j (seen cs)) (one_more i) ∙ all_is (i + 1) cs)
 
+-- a column has its place, whether or not it is another name of the rowid
+same_all : (own : Option ℕ) (i : ℕ) (cs : List ScopeColumn) → all_from i (with_rowid_at own cs) ≡ all_from i cs
+same_all None i cs = refl
+same_all (Some place) i [] = refl
+same_all (Some zero) i (c ∷ cs) = refl
+same_all (Some (suc place)) i (c ∷ cs) = ap (λ ps. i ∷ ps) (same_all (Some place) (suc i) cs)
+
+same_count : (own : Option ℕ) (cs : List ScopeColumn) → length (with_rowid_at own cs) ≡ length cs
+same_count None cs = refl
+same_count (Some place) [] = refl
+same_count (Some zero) (c ∷ cs) = refl
+same_count (Some (suc place)) (c ∷ cs) = ap suc (same_count (Some place) cs)
+
 -- the places of the values' columns
 abbrev pub value_places : Table → Option (List Name) → List ℕ
 value_places t None = map (λ p. p) (range_with_len 0 (length t.columns))
@@ -91,11 +104,11 @@ module _ (db : Database) (n : Name) (source : InsertSource) (t : Table) (found :
   list_fault (Some ns) r (inr (e, u)) = subst (Contains (faults (resolve_places (source_seen n t) ns))) (sym e) (doubled_list n t once ns u)
 
   places_of_list : (columns : Option (List Name)) → AreColumns t.columns columns → places_known (source_seen n t) columns ≡ good (value_places t columns)
-  places_of_list None l = ap good (all_is 0 t.columns)
+  places_of_list None l = ap good (same_all (own_column t) 0 (seen t.columns) ∙ all_is 0 t.columns)
   places_of_list (Some ns) l = list_places n t once ns l.0 l.1
 
   count_is : (columns : Option (List Name)) → wanted (source_seen n t) columns ≡ Some (count_wanted columns t)
-  count_is None = ap Some (seen_count t.columns)
+  count_is None = ap Some (same_count (own_column t) (seen t.columns) ∙ seen_count t.columns)
   count_is (Some ns) = refl
 
   -- where the source isn't refused, the insertion isn't

@@ -1,31 +1,23 @@
--- Rows go into a tree one after another.
-use Rattle.std.proofs.Common.{◌≡◌, refl, sym, ap, subst, ◌∙◌, ◌≤◌, ◌<◌, ◌+◌, ℕ, zero, suc, ℤ, Bool, true, false, List, [], ◌∷◌, ◌++◌, length, map, take, slice_index_or, None, Ok, Err, IsTrue, append_assoc, arith}
-use Rattle.std.proofs.lemmas.Grind.{common_steps}
-use Rattle.std.proofs.lemmas.List.{append-nil, map_more, take_all}
-use Rattle.std.specs.Prelude.{Result, IsErrAnd, ⊤}
+-- A record goes into a tree, in the place of another or beside the others.
+use Rattle.std.proofs.Common.{◌≡◌, ◌⊎◌, inl, inr, refl, sym, ap, subst, ◌∙◌, ℕ, ℤ, Bool, true, false, List, [], ◌∷◌, Some, None, Ok, Err, IsTrue}
+use Rattle.std.specs.Global.{Vec}
+use Rattle.std.specs.Prelude.{Result, MatchResult, IsErrAnd, ⊤}
 use Rattle.sqlval.specs.declared.fault.Fault.{Fault}
+use Rattle.sqlval.specs.declared.fault.Fault.TheVariants.{Unique}
 use Rattle.tree_leaf.specs.Leaf.{Entry}
-use Rattle.pages.specs.Calls.{IsOutsideOrFull, Limits, Causes}
-use Rattle.pages.specs.Counting.{Moves, fresh}
+use Rattle.pages.specs.Calls.{IsOutsideOrFull, Limits}
 use Rattle.pages.specs.Map.{PageMap}
 use Rattle.pages.proofs.Moving.{in_sequence}
 use Rattle.freelist.specs.Calls.{KeepsHeader}
-use Rattle.tree_table.specs.Calls.{BecomesRows, InsertsRow, Stands}
-use Rattle.tree_table.specs.Rows.{payload_at, with_row}
-use Rattle.tree_table.proofs.Orders.{payload_within, with_within}
+use Rattle.tree_table.specs.Calls.{BecomesRows, ChangesRows, InsertsRow, RemovesRow}
+use Rattle.tree_table.specs.Rows.{payload_at, with_changes, with_replaced, with_row, without_row}
+use Rattle.tree_table.specs.declared.changing.RowChange.{RowChange}
 use Rattle.row_change.specs.NewRows.{entry_in}
 use Rattle.row_change.specs.declared.inserting.RowRecord.{RowRecord}
-use Rattle.row_change.specs.Putting.{AreUnder, ComeAfter, PutsAfter, PutsLast}
+use Rattle.row_change.specs.Putting.{MovesRow, PutsAmong}
+use Rattle.row_change.specs.Updating.{ReplacesRows}
 
--- ---- one row
-
--- a row after all others is the last
-with_last : (row : Entry) (rows : List Entry) → AreUnder row.rowid rows → with_row row rows ≡ rows ++ row ∷ []
-with_last row rows under = ap (with_row row) (sym (append-nil rows)) ∙ with_within row rows [] [] under tt
-
--- and isn't there yet
-not_there : (row : Entry) (rows : List Entry) → AreUnder row.rowid rows → payload_at row.rowid rows ≡ None
-not_there row rows under = ap (payload_at row.rowid) (sym (append-nil rows)) ∙ payload_within row.rowid rows [] [] under tt
+-- ---- a row is put in
 
 -- what was put in is the entry of the record
 pub as_entry : (old new : PageMap) (size root : ℕ) (made : RowRecord) (payload : List ℕ) (rowid : ℤ) (there is : Bool) → rowid ≡ made.rowid → payload ≡ made.payload.items → there ≡ is
@@ -36,96 +28,70 @@ as_entry old new size root made payload rowid there is same_rowid same_payload s
     (subst (λ (bytes : List ℕ). InsertsRow old new size root (record { rowid = rowid; payload = bytes }) (Ok there)) same_payload inserts))
 
 module _ (old new : PageMap) (size root : ℕ) (row : Entry) where
-  pub put_last : InsertsRow old new size root row (Ok true) → PutsLast old new size root row (Ok tt)
-  put_last inserts rows used free is under =
-      subst (λ (all : List Entry). BecomesRows old new size root all used free) (with_last row rows under) (inserts rows used free is).1
+  pub put_among : InsertsRow old new size root row (Ok true) → PutsAmong old new size root row (Ok tt)
+  put_among inserts rows used free is = (let now = inserts rows used free is in (now.0, now.1))
 
-  pub never_there : InsertsRow old new size root row (Ok false) → (rows : List Entry) (used free : List ℕ) → Stands old size root rows used free → AreUnder row.rowid rows → ⊥
-  never_there inserts rows used free is under = (inserts rows used free is).0 (not_there row rows under)
+  pub put_taken : InsertsRow old new size root row (Ok false) → PutsAmong old new size root row (Err Unique)
+  put_taken inserts rows used free is = inr (refl, (inserts rows used free is).0)
 
-  pub put_refused : (fault : Fault) (result : Result ⊤ Fault) → IsErrAnd result (λ e. e ≡ fault) → InsertsRow old new size root row (Err fault) → PutsLast old new size root row result
+  pub put_refused : (fault : Fault) (result : Result ⊤ Fault) → IsErrAnd result (λ e. e ≡ fault) → InsertsRow old new size root row (Err fault) → PutsAmong old new size root row result
   put_refused fault (Ok done) same inserts = absurd same
-  put_refused fault (Err e) same inserts = λ rows used free is under. subst IsOutsideOrFull (sym same) (inserts rows used free is)
+  put_refused fault (Err e) same inserts = λ rows used free is. inl (subst IsOutsideOrFull (sym same) (inserts rows used free is))
 
--- ---- several rows
+-- ---- a row is replaced
 
-no_fresh : (a n : ℕ) → fresh a a n ≡ 0
-no_fresh a n = grind (arith, common_steps)
+pub as_one : (old new : PageMap) (size root : ℕ) (changes : List RowChange) (result : Result ⊤ Fault) (m rowid : ℤ) (payload : Vec ℕ) → changes ≡ record { rowid = m; payload = Some payload } ∷ [] → m ≡ rowid → ChangesRows old new size root changes result
+    → ReplacesRows old new size root (with_replaced (record { rowid = rowid; payload = payload.items })) result
+as_one old new size root changes result m rowid payload are same makes rows used free is = by result (makes rows used free is)
+  where
+    one : with_changes changes rows ≡ with_replaced (record { rowid = rowid; payload = payload.items }) rows
+    one = ap (λ (cs : List RowChange). with_changes cs rows) are ∙ ap (λ (n : ℤ). with_replaced (record { rowid = n; payload = payload.items }) rows) same
 
-pub unmoved : (pages : PageMap) (used free : List ℕ) → Moves pages pages used free used free
-unmoved pages used free = record {
-  longer = omega arith;
-  counts = λ n. (let none = no_fresh (length pages) n in omega (arith, none));
-  keeps = λ n from to none. refl;
-  whole = λ size whole. whole;
-}
+    by : (r : Result ⊤ Fault) → MatchResult r (λ done. BecomesRows old new size root (with_changes changes rows) used free) IsOutsideOrFull
+        → MatchResult r (λ done. BecomesRows old new size root (with_replaced (record { rowid = rowid; payload = payload.items }) rows) used free) IsOutsideOrFull
+    by (Ok done) becomes = subst (λ (rs : List Entry). BecomesRows old new size root rs used free) one becomes
+    by (Err fault) refused = refused
+
+-- ---- a row goes, and another comes
 
 pub keeps_then : (a b c : PageMap) → KeepsHeader a b → KeepsHeader b c → KeepsHeader a c
 keeps_then a b c first then header is = (let now = first header is in then (record header { freelist_trunk = now.0; freelist_count = now.1 }) now.2)
 
-pub keeps_all : (pages : PageMap) → KeepsHeader pages pages
-keeps_all pages header is = (header.freelist_trunk, header.freelist_count, is)
+pub not_gone : (old new : PageMap) (size root : ℕ) (gone : ℤ) (row : Entry) (fault : Fault) (result : Result ⊤ Fault) → IsErrAnd result (λ e. e ≡ fault) → RemovesRow old new size root gone (Err fault) → MovesRow old new size root gone row result
+not_gone old new size root gone row fault (Ok done) same removes = absurd same
+not_gone old new size root gone row fault (Err e) same removes = λ rows used free is there. inl (subst IsOutsideOrFull (sym same) (removes rows used free is))
 
--- a tree that stands, before any row is put in
-pub at_first : (pages : PageMap) (size root : ℕ) (rows : List Entry) (used free : List ℕ) (is : Stands pages size root rows used free)
-    → BecomesRows pages pages size root (rows ++ []) used free
-at_first pages size root rows used free is =
-    subst (λ (all : List Entry). BecomesRows pages pages size root all used free) (sym (append-nil rows))
-    (record { now_used = used; now_free = free; stands = is; moves = unmoved pages used free; header = keeps_all pages })
+goes_first : (old mid new : PageMap) (size root : ℕ) (gone : ℤ) (row : Entry) (was_there : Bool) (result : Result ⊤ Fault) → RemovesRow old mid size root gone (Ok was_there) → PutsAmong mid new size root row result → MovesRow old new size root gone row result
+goes_first old mid new size root gone row false result removes puts rows used free is there = absurd (there (removes rows used free is).0)
+goes_first old mid new size root gone row true result removes puts rows used free is there = by result (puts (without_row gone rows) was.now_used was.now_free was.stands)
+  where
+    was : BecomesRows old mid size root (without_row gone rows) used free
+    was = (removes rows used free is).1.0
 
--- each row comes after those before it
-pub comes_at : {S : Type 0} (h : S → Entry) (items : List S) (i : ℕ) (item : S) → i < length items → item ≡ slice_index_or items i item
-    → (rows : List Entry) → ComeAfter rows (map h items) → AreUnder (h item).rowid (rows ++ map h (take i items))
-comes_at h [] i item lt is rows come = absurd (omega (arith, lt))
-comes_at h (first ∷ items) zero item lt is rows come =
-    subst (λ (all : List Entry). AreUnder (h item).rowid all) (sym (append-nil rows)) (subst (λ s. AreUnder (h s).rowid rows) (sym is) come.0)
-comes_at h (first ∷ items) (suc i) item lt is rows come =
-    subst (λ (all : List Entry). AreUnder (h item).rowid all) (append_assoc rows (h first ∷ []) (map h (take i items)))
-    (comes_at h items i item (omega (arith, lt)) is (rows ++ h first ∷ []) come.1)
-
--- after some of the rows the tree has become these
-abbrev pub HaveBeenPut : PageMap → PageMap → ℕ → ℕ → List Entry → List Entry → Type 0
-HaveBeenPut old now size root all done =
-    (rows : List Entry) (used free : List ℕ) → Stands old size root rows used free → ComeAfter rows all → BecomesRows old now size root (rows ++ done) used free
-
-module _ (old mid new : PageMap) (size root : ℕ) (all done : List Entry) (row : Entry) (so_far : HaveBeenPut old mid size root all done)
-    (comes : (rows : List Entry) → ComeAfter rows all → AreUnder row.rowid (rows ++ done)) where
-  pub one_on : PutsLast mid new size root row (Ok tt) → HaveBeenPut old new size root all (done ++ row ∷ [])
-  one_on puts rows used free is come =
-      let was = so_far rows used free is come in
-      let now = puts (rows ++ done) was.now_used was.now_free was.stands (comes rows come) in
-      subst (λ (them : List Entry). BecomesRows old new size root them used free) (append_assoc rows done (row ∷ [])) (record {
+    by : (r : Result ⊤ Fault)
+        → MatchResult r (λ done. (payload_at row.rowid (without_row gone rows) ≡ None) × BecomesRows mid new size root (with_row row (without_row gone rows)) was.now_used was.now_free)
+        (λ fault. IsOutsideOrFull fault ⊎ ((fault ≡ Unique) × (payload_at row.rowid (without_row gone rows) ≡ None → ⊥)))
+        → MatchResult r (λ done. (payload_at row.rowid (without_row gone rows) ≡ None) × BecomesRows old new size root (with_row row (without_row gone rows)) used free)
+        (λ fault. IsOutsideOrFull fault ⊎ ((fault ≡ Unique) × (payload_at row.rowid (without_row gone rows) ≡ None → ⊥)))
+    by (Ok done) (none, now) = (
+      none,
+      record {
         now_used = now.now_used;
         now_free = now.now_free;
         stands = now.stands;
         moves = in_sequence old mid new used free was.now_used was.now_free now.now_used now.now_free was.moves now.moves;
         header = keeps_then old mid new was.header now.header;
-      })
+      },
+    )
+    by (Err fault) cannot = cannot
 
-  pub one_stops : (fault : Fault) (result : Result ⊤ Fault) → IsErrAnd result (λ e. e ≡ fault) → PutsLast mid new size root row (Err fault) → PutsAfter old new size root all result
-  one_stops fault (Ok x) same puts = absurd same
-  one_stops fault (Err e) same puts = λ rows used free is come.
-      (let was = so_far rows used free is come in subst IsOutsideOrFull (sym same) (puts (rows ++ done) was.now_used was.now_free was.stands (comes rows come)))
+pub then_put : (old mid new : PageMap) (size root : ℕ) (m gone : ℤ) (row : Entry) (was_there : Bool) (result : Result ⊤ Fault) → m ≡ gone → RemovesRow old mid size root m (Ok was_there) → PutsAmong mid new size root row result
+    → MovesRow old new size root gone row result
+then_put old mid new size root m gone row was_there result same removes puts =
+    goes_first old mid new size root gone row was_there result (subst (λ (n : ℤ). RemovesRow old mid size root n (Ok was_there)) same removes) puts
 
-pub all_put : (old new : PageMap) (size root : ℕ) (all done : List Entry) → done ≡ all → HaveBeenPut old new size root all done → PutsAfter old new size root all (Ok tt)
-all_put old new size root all done same put rows used free is come =
-    subst (λ (them : List Entry). BecomesRows old new size root (rows ++ them) used free) same (put rows used free is come)
-
--- What is so after some of the rows were put in.
-pub record HasPut {P K : Type 0} (below : P → K) (tells : K → Bool) (limits : K → Limits) (pages : P → PageMap) (failures : P → ℕ × ℕ) (old now : P) (root : ℕ) (all done : List Entry) : Type 0 where
-  pub kept : below now ≡ below old
-  pub causes : Causes {T = ⊤} (Ok tt) (failures old) (failures now) ⊥
-  pub put : IsTrue (tells (below old)) → HaveBeenPut (pages old) (pages now) (limits (below old)).page root all done
-
--- what one call does it does from before the first
+-- what a call does it does with the limits that there were before it
 pub puts_since : {P K : Type 0} (below : P → K) (tells : K → Bool) (limits : K → Limits) (old mid : P) (m new : PageMap) (root : ℕ) (row : Entry) (result : Result ⊤ Fault) → below mid ≡ below old
-    → (IsTrue (tells (below mid)) → PutsLast m new (limits (below mid)).page root row result) → IsTrue (tells (below old)) → PutsLast m new (limits (below old)).page root row result
+    → (IsTrue (tells (below mid)) → PutsAmong m new (limits (below mid)).page root row result) → IsTrue (tells (below old)) → PutsAmong m new (limits (below old)).page root row result
 puts_since {P} {K} below tells limits old mid m new root row result kept puts told =
-    subst (λ (k : K). PutsLast m new (limits k).page root row result) kept (puts (subst (λ (k : K). IsTrue (tells k)) (sym kept) told))
-
--- those up to the next place
-pub one_further : {S : Type 0} (h : S → Entry) (items : List S) (i : ℕ) (item : S) → i < length items → item ≡ slice_index_or items i item → map h (take i items) ++ h item ∷ [] ≡ map h (take (i + 1) items)
-one_further h items i item lt is = sym (map_more h items i item lt ∙ ap (λ s. map h (take i items) ++ h s ∷ []) (sym is))
-
-pub up_to_end : {S : Type 0} (h : S → Entry) (items : List S) (i : ℕ) → length items ≤ i → map h (take i items) ≡ map h items
-up_to_end h items i le = ap (map h) (take_all i items le)
+    subst (λ (k : K). PutsAmong m new (limits k).page root row result) kept (puts (subst (λ (k : K). IsTrue (tells k)) (sym kept) told))

@@ -2,12 +2,15 @@ mod Chosen
 mod Deletions
 mod Demanded
 mod Alone
+mod AmongRows
 mod Checks
 mod FitRows
 mod Folding
 mod IntoTrees
-mod Added
+mod OwnPlaces
+mod Placed
 mod PutRows
+mod Records
 pub mod Rising
 mod RowRows
 mod StoredRows

@@ -1,10 +1,9 @@
 -- Rows of a tree are replaced one after another.
-use Rattle.std.proofs.Common.{◌≡◌, inl, inr, refl, sym, ap, subst, ◌∙◌, ◌<ℤ◌, ◌≤ℤ◌, ◌&&◌, ◌==◌, ℕ, zero, suc, ℤ, Bool, true, false, cond, filter, List, [], ◌∷◌, ◌++◌, length, map, Option, Some, None, if◌then◌else◌, Result, Ok, Err, All, zip, slice_set, arith}
-use Rattle.std.specs.Prelude.{MatchResult, ⊤, int_lt}
+use Rattle.std.proofs.Common.{◌≡◌, refl, sym, ap, subst, ◌∙◌, ◌<ℤ◌, ℕ, zero, suc, ℤ, Bool, true, false, cond, filter, List, [], ◌∷◌, ◌++◌, length, map, Option, Some, None, if◌then◌else◌, Result, Ok, Err, All, zip, slice_set, arith}
+use Rattle.std.specs.Prelude.{MatchResult, ⊤}
 use Rattle.std.specs.Global.{Vec}
 use Rattle.std.specs.List.{AllByRecursion, list_all}
-use Rattle.std.specs.Ordering.{int_cmp, int_eq}
-use Rattle.std.proofs.lemmas.Bool.{eq-eqb, false≢true}
+use Rattle.std.specs.Ordering.{int_cmp}
 use Rattle.std.proofs.lemmas.List.{length-map, length-set}
 use Rattle.sqlval.specs.Conversion.{converted, is_word}
 use Rattle.sqlval.specs.Lists.{is_rising}
@@ -16,15 +15,15 @@ use Rattle.pages.specs.Calls.{IsOutsideOrFull}
 use Rattle.pages.specs.Map.{PageMap}
 use Rattle.tree_page.specs.Cells.{Pairwise}
 use Rattle.tree_table.specs.Calls.{BecomesRows, ChangesRows}
-use Rattle.tree_table.specs.Rows.{payload_at, with_row, with_change, with_changes, with_replaced}
+use Rattle.tree_table.specs.Rows.{with_change, with_changes, with_replaced}
 use Rattle.tree_table.specs.declared.changing.RowChange.{RowChange}
-use Rattle.tree_table.proofs.Orders.{less_not, not_less, same_or_other, lt_le}
 use Rattle.catalog.specs.Database.{TableColumn}
-use Rattle.catalog.specs.Listed.{as_column, with_rows}
-use Rattle.catalog.specs.Rows.{is_row, is_value}
+use Rattle.catalog.specs.Listed.{as_column, own_column, shape_of, with_rows}
+use Rattle.catalog.specs.Rows.{holds_rowid, is_row, is_value}
 use Rattle.catalog.specs.declared.tables.Table.{Table}
 use Rattle.query_names.specs.Readings.{env_of, values}
 use Rattle.query_terms.specs.Terms.{Term}
+use Rattle.query_terms.specs.Values.{Row}
 use Rattle.row_scan.specs.Rows.{IsRow, TableRow}
 use Rattle.row_scan.specs.Sources.{as_source}
 use Rattle.row_scan.proofs.RowOrder.{both_true}
@@ -32,10 +31,13 @@ use Rattle.row_change.specs.Constraints.{set_values, with_affinity}
 use Rattle.row_change.specs.Demands.{demanded}
 use Rattle.row_change.specs.NewRows.{IsReplacement, IsWritten, entry_left}
 use Rattle.record.specs.Writing.{AreStorable}
-use Rattle.row_change.specs.Setting.{row_set, rows_meant_set, values_set}
-use Rattle.row_change.specs.Updating.{FitNow, ReplacesRows, with_all_replaced}
+use Rattle.row_change.specs.Setting.{row_after, row_set, rowid_left, rows_meant_set, values_set}
+use Rattle.row_change.specs.Trees.{FitNow}
+use Rattle.row_change.specs.Updating.{ReplacesRows, with_all_replaced}
+use Rattle.row_change.proofs.AmongRows.{in_place, stays_before}
 use Rattle.row_change.proofs.Demanded.{demanded_fits, is_demanded}
-use Rattle.row_change.proofs.Deletions.{climbs_over}
+use Rattle.row_change.proofs.FitRows.{row_fits, word_fits}
+use Rattle.row_change.proofs.OwnPlaces.{left_holds, left_same}
 use Rattle.row_change.proofs.Rising.{Climbs, Rises, both, further}
 
 -- ---- the call
@@ -120,14 +122,52 @@ module _ (table : Table) (sets : List (ℕ × Term)) where
           long_stored (map as_column table.columns) (set_values row.1 ps) stored (as_long row.1 ps ∙ (long ∙ sym as_many)) h ∙ as_many
       by (Err r) h = absurd cc
 
-  -- what a row becomes keeps its rowid
-  pub set_parts : (row now : TableRow) → row_set table sets row ≡ Ok now → (now.0 ≡ row.0) × (values_set table.columns sets (as_source row) ≡ Ok now.1)
-  set_parts row now e = by (values_set table.columns sets (as_source row)) e
+  -- what a row of this rowid becomes: its values, and its rowid, of which an own column decides
+  pub after_parts : (rowid : ℤ) (row : Row) (now : TableRow) → row_after table sets rowid row ≡ Ok now → (rowid_left (own_column table) rowid now.1 ≡ Ok now.0) × (values_set table.columns sets row ≡ Ok now.1)
+  after_parts rowid row now e = by (values_set table.columns sets row) e
     where
-      by : (a : Answer (List Value)) → (a then λ values. demanded table (row.0, values)) ≡ Ok now → (now.0 ≡ row.0) × (a ≡ Ok now.1)
-      by (Ok values) h =
-          let same : (row.0, values) ≡ now = is_demanded table (row.0, values) now h in
-          (ap (λ (r : TableRow). r.0) (sym same), ap (λ (r : TableRow). Ok r.1) same)
+      by_left : (values : List Value) (b : Answer ℤ) → rowid_left (own_column table) rowid values ≡ b → (b then λ n. demanded table (n, values)) ≡ Ok now
+          → (rowid_left (own_column table) rowid now.1 ≡ Ok now.0) × (given_values values ≡ Ok now.1)
+      by_left values (Ok n) is h =
+          let same : (n, values) ≡ now = is_demanded table (n, values) now h in
+          (ap (λ (r : TableRow). rowid_left (own_column table) rowid r.1) (sym same) ∙ (is ∙ ap (λ (r : TableRow). Ok r.0) same), ap (λ (r : TableRow). Ok r.1) same)
+      by_left values (Err r) is h = absurd cc
+
+      by : (a : Answer (List Value)) → (a then λ values. rowid_left (own_column table) rowid values then λ n. demanded table (n, values)) ≡ Ok now → (rowid_left (own_column table) rowid now.1 ≡ Ok now.0) × (a ≡ Ok now.1)
+      by (Ok values) h = by_left values (rowid_left (own_column table) rowid values) refl h
+      by (Err r) h = absurd cc
+
+  -- the same of a table's row
+  pub set_parts : (row now : TableRow) → row_set table sets row ≡ Ok now → (rowid_left (own_column table) row.0 now.1 ≡ Ok now.0) × (values_set table.columns sets (as_source row) ≡ Ok now.1)
+  set_parts row now e = after_parts row.0 (as_source row) now e
+
+  -- without such a column it keeps its rowid
+  pub set_keeps : own_column table ≡ None → (row now : TableRow) → row_set table sets row ≡ Ok now → now.0 ≡ row.0
+  set_keeps plain row now e = left_same row.0 now.0 now.1 (ap (λ (own : Option ℕ). rowid_left own row.0 now.1) (sym plain) ∙ (set_parts row now e).0)
+
+  -- its own column holds its rowid
+  pub set_holds : (rowid : ℤ) (row : Row) (now : TableRow) → row_after table sets rowid row ≡ Ok now → holds_rowid (own_column table) now ≡ true
+  set_holds rowid row now e = left_holds (own_column table) rowid now.0 now.1 (after_parts rowid row now e).0
+
+  -- its record is that of a row
+  pub set_is_row : (row now : TableRow) (m : Entry) → row_set table sets row ≡ Ok now → length row.1 ≡ length table.columns → IsWritten (own_column table) now m → IsRow (shape_of table) m now
+  set_is_row row now m e full written = record {
+    rowid = ap (λ (n : Entry). n.rowid) written.is;
+    values = written.values;
+    full = long_set row now.1 full (set_parts row now e).1;
+    own = set_holds row.0 (as_source row) now e;
+  }
+
+  -- what it becomes can be stored
+  pub after_fits : (rowid : ℤ) (row : Row) (now : TableRow) → row_after table sets rowid row ≡ Ok now → AreStorable now.1
+  after_fits rowid row now e = by (values_set table.columns sets row) e
+    where
+      by_left : (values : List Value) (b : Answer ℤ) → (b then λ n. demanded table (n, values)) ≡ Ok now → AreStorable now.1
+      by_left values (Ok n) h = demanded_fits table (n, values) now h
+      by_left values (Err r) h = absurd cc
+
+      by : (a : Answer (List Value)) → (a then λ values. rowid_left (own_column table) rowid values then λ n. demanded table (n, values)) ≡ Ok now → AreStorable now.1
+      by (Ok values) h = by_left values (rowid_left (own_column table) rowid values) h
       by (Err r) h = absurd cc
 
 -- ---- a row among others
@@ -137,51 +177,9 @@ abbrev pub AreOver : ℤ → List Entry → Type 0
 AreOver low [] = ⊤
 AreOver low (entry ∷ entries) = (low <ℤ entry.rowid) × AreOver low entries
 
--- the rows with one in place of that of its rowid, by what the tests of the first are
-abbrev by_tests : Entry → Entry → List Entry → Bool → Bool → Bool → List Entry
-by_tests row first rows is less same =
-    elim (if is then Some first.payload else payload_at row.rowid rows) [
-      | None ↦ first ∷ rows
-      | Some payload ↦ (if less then row ∷ first ∷ rows else (if same then row ∷ rows else first ∷ with_row row rows))
-    ]
-
-tested : (row first : Entry) (rows : List Entry) (is less same : Bool) → int_eq first.rowid row.rowid ≡ is → int_lt row.rowid first.rowid ≡ less → int_eq row.rowid first.rowid ≡ same
-    → with_replaced row (first ∷ rows) ≡ by_tests row first rows is less same
-tested row first rows is less same e h k =
-    ap (λ (b : Bool). by_tests row first rows b (int_lt row.rowid first.rowid) (int_eq row.rowid first.rowid)) e
-    ∙ (ap (λ (b : Bool). by_tests row first rows is b (int_eq row.rowid first.rowid)) h ∙ ap (λ (b : Bool). by_tests row first rows is less b) k)
-
-apart : (a b : ℤ) → a <ℤ b → b ≡ a → ⊥
-apart a b lt same = grind (arith)
-
--- a row of a greater rowid leaves the first
-stays_before : (row first : Entry) (rows : List Entry) → first.rowid <ℤ row.rowid → with_replaced row (first ∷ rows) ≡ first ∷ with_replaced row rows
-stays_before row first rows lt =
-    tested row first rows false false false (less_not first.rowid row.rowid lt) (not_less row.rowid first.rowid (lt_le first.rowid row.rowid lt)) other ∙ by (payload_at row.rowid rows)
-  where
-    other : int_eq row.rowid first.rowid ≡ false
-    other = elim (same_or_other row.rowid first.rowid) [ inl is ↦ absurd (apart first.rowid row.rowid lt is.1) | inr is ↦ is.0 ]
-
-    by : (o : Option (List ℕ)) → elim o [ None ↦ first ∷ rows | Some payload ↦ first ∷ with_row row rows ] ≡ first ∷ elim o [ None ↦ rows | Some payload ↦ with_row row rows ]
-    by None = refl
-    by (Some payload) = refl
-
 stay_before : (more : List Entry) (first : Entry) (rows : List Entry) → AreOver first.rowid more → with_all_replaced more (first ∷ rows) ≡ first ∷ with_all_replaced more rows
 stay_before [] first rows over = refl
 stay_before (row ∷ more) first rows over = ap (with_all_replaced more) (stays_before row first rows over.0) ∙ stay_before more first (with_replaced row rows) over.1
-
--- one of the same rowid comes in the place of the first
-in_place : (row first : Entry) (rows : List Entry) → first.rowid ≡ row.rowid → with_replaced row (first ∷ rows) ≡ row ∷ rows
-in_place row first rows same = tested row first rows true false true there (not_less row.rowid first.rowid (at_most first.rowid row.rowid same)) back
-  where
-    there : int_eq first.rowid row.rowid ≡ true
-    there = elim (same_or_other first.rowid row.rowid) [ inl is ↦ is.0 | inr other ↦ absurd (other.1 same) ]
-
-    back : int_eq row.rowid first.rowid ≡ true
-    back = elim (same_or_other row.rowid first.rowid) [ inl is ↦ is.0 | inr other ↦ absurd (other.1 (sym same)) ]
-
-    at_most : (a b : ℤ) → a ≡ b → a ≤ℤ b
-    at_most a b same = grind (arith)
 
 -- ---- some rows
 
@@ -192,13 +190,6 @@ lower low mid (row ∷ rows) lt climb = (further low mid row.0 lt climb.0, climb
 rest_rises : (row : TableRow) (rows : List TableRow) → Climbs row.0 rows → Rises rows
 rest_rises row [] climb = tt
 rest_rises row (next ∷ rows) climb = climb.1
-
--- each of some rows, by recursion
-first_of_all : {X : Type 0} (P : X → Type 0) (x : X) (xs : List X) → All P (x ∷ xs) → P x
-first_of_all P x xs all = all 0 x (omega arith)
-
-rest_of_all : {X : Type 0} (P : X → Type 0) (x : X) (xs : List X) → All P (x ∷ xs) → All P xs
-rest_of_all P x xs all k d lt = all (suc k) d (omega (arith, lt))
 
 all_with : {X : Type 0} (P : X → Type 0) (x : X) (xs : List X) → P x → All P xs → All P (x ∷ xs)
 all_with P x xs first rest zero d lt = first
@@ -226,102 +217,6 @@ module _ (table : Table) (sets : List (ℕ × Term)) (is_meant : TableRow → Bo
   set_none : (r : TableRow) (rows : List TableRow) → is_meant r ≡ false → rows_meant_set table sets is_meant (r ∷ rows) ≡ (rows_meant_set table sets is_meant rows then λ xs. Ok (r ∷ xs))
   set_none r rows it = ap (λ (b : Bool). (if b then row_set table sets r else Ok r) then λ x. rows_meant_set table sets is_meant rows then λ xs. Ok (x ∷ xs)) it
 
-  -- where the rows become these, their records leave the tree with all rows
-  pub record AreSet (rows new : List TableRow) (entries more : List Entry) : Type 0 where
-    pub now : List TableRow
-    pub answer : rows_meant_set table sets is_meant rows ≡ Ok now
-    pub each : Pairwise (IsRow (length table.columns)) (with_all_replaced more entries) now
-    pub ids : map (λ row. row.0) now ≡ map (λ row. row.0) rows
-    pub fit : (held : List TableRow) → list_all (is_row (with_rows table held)) rows ≡ true → list_all (is_row (with_rows table held)) now ≡ true
-    pub over : (low : ℤ) → Climbs low rows → AreOver low more
-
-  none_set : AreSet [] [] [] []
-  none_set = record { now = []; answer = refl; each = tt; ids = refl; fit = λ held all. refl; over = λ low climb. tt }
-
-  one_stays : (r : TableRow) (rows new : List TableRow) (entry : Entry) (entries more : List Entry) → is_meant r ≡ false → IsRow (length table.columns) entry r → Climbs r.0 rows → AreSet rows new entries more
-      → AreSet (r ∷ rows) new (entry ∷ entries) more
-  one_stays r rows new entry entries more it is climb set = record {
-    now = r ∷ set.now;
-    answer = set_none r rows it ∙ ap (λ (a : Answer (List TableRow)). a then λ xs. Ok (r ∷ xs)) set.answer;
-    each = subst (λ (all : List Entry). Pairwise (IsRow (length table.columns)) all (r ∷ set.now)) (sym (stay_before more entry entries (subst (λ (n : ℤ). AreOver n more) (sym is.rowid) (set.over r.0 climb)))) (is, set.each);
-    ids = ap (λ (ids : List ℤ). r.0 ∷ ids) set.ids;
-    fit = λ held all.
-        (let parts = both (is_row (with_rows table held) r) (list_all (is_row (with_rows table held)) rows) all in
-        both_true (is_row (with_rows table held) r) (list_all (is_row (with_rows table held)) set.now) parts.0 (set.fit held parts.1));
-    over = λ low climbs. set.over low (lower low r.0 rows climbs.0 climbs.1);
-  }
-
-  -- the row that it becomes fits as it did
-  still_fits : (held : List TableRow) (r x : TableRow) → is_row (with_rows table held) r ≡ true → x.0 ≡ r.0 → length x.1 ≡ length table.columns → list_all is_value x.1 ≡ true
-      → is_row (with_rows table held) x ≡ true
-  still_fits held r x was id long fit =
-      both_true (is_word x.0 && length x.1 == length (map as_column table.columns) && list_all is_value x.1) true
-      (both_true (is_word x.0 && length x.1 == length (map as_column table.columns)) (list_all is_value x.1)
-      (both_true (is_word x.0) (length x.1 == length (map as_column table.columns)) (ap is_word id ∙ word (is_word r.0) (length r.1 == length (map as_column table.columns)) (list_all is_value r.1) was)
-      (eq-eqb (length x.1) (length (map as_column table.columns)) (long ∙ sym (length-map table.columns as_column)))) fit) refl
-    where
-      word : (a b c : Bool) → (a && b && c && true) ≡ true → a ≡ true
-      word true b c e = refl
-      word false b c e = absurd (false≢true e)
-
-  one_set : (r x : TableRow) (rows new : List TableRow) (entry m : Entry) (entries more : List Entry) → is_meant r ≡ true → IsRow (length table.columns) entry r → Climbs r.0 rows → row_set table sets r ≡ Ok x → IsWritten x m
-      → AreSet rows new entries more → AreSet (r ∷ rows) (x ∷ new) (entry ∷ entries) (m ∷ more)
-  one_set r x rows new entry m entries more it is climb e written set = record {
-    now = x ∷ set.now;
-    answer = set_one r rows it
-        ∙ (ap (λ (a : Answer TableRow). a then λ x. rows_meant_set table sets is_meant rows then λ xs. Ok (x ∷ xs)) e ∙ ap (λ (a : Answer (List TableRow)). a then λ xs. Ok (x ∷ xs)) set.answer);
-    each = subst (λ (all : List Entry). Pairwise (IsRow (length table.columns)) all (x ∷ set.now))
-        (sym (ap (with_all_replaced more) (in_place m entry entries (is.rowid ∙ sym at)) ∙ stay_before more m entries (subst (λ (n : ℤ). AreOver n more) (sym at) (set.over r.0 climb))))
-        (record { rowid = m_is; values = written.values; full = long }, set.each);
-    ids = let h = parts.0 in let k = set.ids in cc;
-    fit = λ held all.
-        (let halves = both (is_row (with_rows table held) r) (list_all (is_row (with_rows table held)) rows) all in
-        both_true (is_row (with_rows table held) x) (list_all (is_row (with_rows table held)) set.now) (still_fits held r x halves.0 parts.0 long written.fit) (set.fit held halves.1));
-    over = λ low climbs. (subst (λ (n : ℤ). low <ℤ n) (sym at) climbs.0, set.over low (lower low r.0 rows climbs.0 climbs.1));
-  }
-    where
-      parts : (x.0 ≡ r.0) × (values_set table.columns sets (as_source r) ≡ Ok x.1)
-      parts = set_parts table sets r x e
-
-      m_is : m.rowid ≡ x.0
-      m_is = ap (λ (n : Entry). n.rowid) written.is
-
-      at : m.rowid ≡ r.0
-      at = m_is ∙ parts.0
-
-      long : length x.1 ≡ length table.columns
-      long = long_set table sets r x.1 is.full parts.1
-
-  pub are_set : (rows new : List TableRow) (entries more : List Entry) → Pairwise (IsRow (length table.columns)) entries rows → Rises rows → made rows ≡ Ok new → Pairwise IsWritten new more → AreSet rows new entries more
-  are_set [] [] [] [] each rises e all = none_set
-  are_set [] [] [] (m ∷ more) each rises e all = absurd all
-  are_set [] (x ∷ new) [] more each rises e all = absurd cc
-  are_set [] new (entry ∷ entries) more each rises e all = absurd each
-  are_set (r ∷ rows) new [] more each rises e all = absurd each
-  are_set (r ∷ rows) new (entry ∷ entries) more each rises e all = by (λ new more. are_set rows new entries more each.1 (rest_rises r rows rises)) (is_meant r) refl
-    where
-      written : (x : TableRow) (xs new : List TableRow) (more : List Entry) → x ∷ xs ≡ new → Pairwise IsWritten new more → row_set table sets r ≡ Ok x → is_meant r ≡ true
-          → ((more : List Entry) → Pairwise IsWritten xs more → AreSet rows xs entries more) → AreSet (r ∷ rows) new (entry ∷ entries) more
-      written x xs [] more same all is it on = absurd cc
-      written x xs (y ∷ new) [] same all is it on = absurd all
-      written x xs (y ∷ new) (m ∷ more) same all is it on =
-          let first : x ≡ y = head_is same in
-          let rest : xs ≡ new = tail_is same in
-          one_set r y rows new entry m entries more it each.0 rises (is ∙ ap (λ (z : TableRow). Ok z) first) all.0
-          (subst (λ (zs : List TableRow). AreSet rows zs entries more) rest (on more (subst (λ (zs : List TableRow). Pairwise IsWritten zs more) (sym rest) all.1)))
-        where
-          head_is : x ∷ xs ≡ y ∷ new → x ≡ y
-          head_is h = cc
-
-          tail_is : x ∷ xs ≡ y ∷ new → xs ≡ new
-          tail_is h = cc
-
-      by : ((new : List TableRow) (more : List Entry) → made rows ≡ Ok new → Pairwise IsWritten new more → AreSet rows new entries more) → (b : Bool) → is_meant r ≡ b → AreSet (r ∷ rows) new (entry ∷ entries) more
-      by on true it =
-          let parts = parts_of (row_set table sets r) (made rows) new (sym (made_one r rows it) ∙ e) in
-          written parts.row parts.more new more parts.are all parts.first_is it (λ more all. on parts.more more parts.more_is all)
-      by on false it = one_stays r rows new entry entries more it each.0 rises (on new more (sym (made_none r rows it) ∙ e) all)
-
   -- where they are refused, so is the whole
   pub set_refused : (rows : List TableRow) (why : Refusal) → made rows ≡ Err why → rows_meant_set table sets is_meant rows ≡ Err why
   set_refused [] why e = absurd cc
@@ -340,61 +235,101 @@ module _ (table : Table) (sets : List (ℕ × Term)) (is_meant : TableRow → Bo
       by on false it = set_none r rows it ∙ ap (λ (d : Answer (List TableRow)). d then λ xs. Ok (r ∷ xs)) (on (sym (made_none r rows it) ∙ e))
 
   -- what the rows become can be stored
-  pub set_fits : (row x : TableRow) → row_set table sets row ≡ Ok x → CanStore x
-  set_fits row x e = by (values_set table.columns sets (as_source row)) e
-    where
-      by : (a : Answer (List Value)) → (a then λ values. demanded table (row.0, values)) ≡ Ok x → CanStore x
-      by (Ok values) h = demanded_fits table (row.0, values) x h
-      by (Err r) h = absurd cc
-
   pub all_fit : (olds new : List TableRow) → all_answers (map (row_set table sets) olds) ≡ Ok new → All CanStore new
   all_fit [] [] e = λ k d lt. absurd (omega (arith, lt))
   all_fit [] (x ∷ new) e = absurd cc
   all_fit (r ∷ olds) new e =
       let parts = parts_of (row_set table sets r) (all_answers (map (row_set table sets) olds)) new e in
-      subst (All CanStore) parts.are (all_with CanStore parts.row parts.more (set_fits r parts.row parts.first_is) (all_fit olds parts.more parts.more_is))
+      subst (All CanStore) parts.are (all_with CanStore parts.row parts.more (after_fits table sets r.0 (as_source r) parts.row parts.first_is) (all_fit olds parts.more parts.more_is))
+
+module _ (table : Table) (sets : List (ℕ × Term)) (is_meant : TableRow → Bool) (plain : own_column table ≡ None) where
+  -- where the rows become these, their records leave the tree with all rows
+  pub record AreSet (rows new : List TableRow) (entries more : List Entry) : Type 0 where
+    pub now : List TableRow
+    pub answer : rows_meant_set table sets is_meant rows ≡ Ok now
+    pub each : Pairwise (IsRow (shape_of table)) (with_all_replaced more entries) now
+    pub ids : map (λ row. row.0) now ≡ map (λ row. row.0) rows
+    pub fit : (held : List TableRow) → list_all (is_row (with_rows table held)) rows ≡ true → list_all (is_row (with_rows table held)) now ≡ true
+    pub over : (low : ℤ) → Climbs low rows → AreOver low more
+
+  none_set : AreSet [] [] [] []
+  none_set = record { now = []; answer = refl; each = tt; ids = refl; fit = λ held all. refl; over = λ low climb. tt }
+
+  one_stays : (r : TableRow) (rows new : List TableRow) (entry : Entry) (entries more : List Entry) → is_meant r ≡ false → IsRow (shape_of table) entry r → Climbs r.0 rows → AreSet rows new entries more
+      → AreSet (r ∷ rows) new (entry ∷ entries) more
+  one_stays r rows new entry entries more it is climb set = record {
+    now = r ∷ set.now;
+    answer = set_none table sets is_meant r rows it ∙ ap (λ (a : Answer (List TableRow)). a then λ xs. Ok (r ∷ xs)) set.answer;
+    each = subst (λ (all : List Entry). Pairwise (IsRow (shape_of table)) all (r ∷ set.now)) (sym (stay_before more entry entries (subst (λ (n : ℤ). AreOver n more) (sym is.rowid) (set.over r.0 climb)))) (is, set.each);
+    ids = ap (λ (ids : List ℤ). r.0 ∷ ids) set.ids;
+    fit = λ held all.
+        (let parts = both (is_row (with_rows table held) r) (list_all (is_row (with_rows table held)) rows) all in
+        both_true (is_row (with_rows table held) r) (list_all (is_row (with_rows table held)) set.now) parts.0 (set.fit held parts.1));
+    over = λ low climbs. set.over low (lower low r.0 rows climbs.0 climbs.1);
+  }
+
+  -- where a table may hold the row, it may hold what it becomes
+  still_fits : (held : List TableRow) (r x : TableRow) → row_set table sets r ≡ Ok x → is_row (with_rows table held) r ≡ true → length x.1 ≡ length table.columns → list_all is_value x.1 ≡ true → is_row (with_rows table held) x ≡ true
+  still_fits held r x e was long fit =
+      row_fits (with_rows table held) x (ap is_word (set_keeps table sets plain r x e) ∙ word_fits (with_rows table held) r was) (long ∙ sym (length-map table.columns as_column)) fit (set_holds table sets r.0 (as_source r) x e)
+
+  one_set : (r x : TableRow) (rows new : List TableRow) (entry m : Entry) (entries more : List Entry) → is_meant r ≡ true → IsRow (shape_of table) entry r → Climbs r.0 rows → row_set table sets r ≡ Ok x → IsWritten (own_column table) x m
+      → AreSet rows new entries more → AreSet (r ∷ rows) (x ∷ new) (entry ∷ entries) (m ∷ more)
+  one_set r x rows new entry m entries more it is climb e written set = record {
+    now = x ∷ set.now;
+    answer = set_one table sets is_meant r rows it
+        ∙ (ap (λ (a : Answer TableRow). a then λ x. rows_meant_set table sets is_meant rows then λ xs. Ok (x ∷ xs)) e ∙ ap (λ (a : Answer (List TableRow)). a then λ xs. Ok (x ∷ xs)) set.answer);
+    each = subst (λ (all : List Entry). Pairwise (IsRow (shape_of table)) all (x ∷ set.now))
+        (sym (ap (with_all_replaced more) (in_place m entry entries (is.rowid ∙ sym at)) ∙ stay_before more m entries (subst (λ (n : ℤ). AreOver n more) (sym at) (set.over r.0 climb))))
+        (made, set.each);
+    ids = let h = keeps in let k = set.ids in cc;
+    fit = λ held all.
+        (let halves = both (is_row (with_rows table held) r) (list_all (is_row (with_rows table held)) rows) all in
+        both_true (is_row (with_rows table held) x) (list_all (is_row (with_rows table held)) set.now) (still_fits held r x e halves.0 made.full written.fit) (set.fit held halves.1));
+    over = λ low climbs. (subst (λ (n : ℤ). low <ℤ n) (sym at) climbs.0, set.over low (lower low r.0 rows climbs.0 climbs.1));
+  }
+    where
+      keeps : x.0 ≡ r.0
+      keeps = set_keeps table sets plain r x e
+
+      made : IsRow (shape_of table) m x
+      made = set_is_row table sets r x m e is.full written
+
+      at : m.rowid ≡ r.0
+      at = made.rowid ∙ keeps
+
+  pub are_set : (rows new : List TableRow) (entries more : List Entry) → Pairwise (IsRow (shape_of table)) entries rows → Rises rows → made table sets is_meant rows ≡ Ok new → Pairwise (IsWritten (own_column table)) new more → AreSet rows new entries more
+  are_set [] [] [] [] each rises e all = none_set
+  are_set [] [] [] (m ∷ more) each rises e all = absurd all
+  are_set [] (x ∷ new) [] more each rises e all = absurd cc
+  are_set [] new (entry ∷ entries) more each rises e all = absurd each
+  are_set (r ∷ rows) new [] more each rises e all = absurd each
+  are_set (r ∷ rows) new (entry ∷ entries) more each rises e all = by (λ new more. are_set rows new entries more each.1 (rest_rises r rows rises)) (is_meant r) refl
+    where
+      written : (x : TableRow) (xs new : List TableRow) (more : List Entry) → x ∷ xs ≡ new → Pairwise (IsWritten (own_column table)) new more → row_set table sets r ≡ Ok x → is_meant r ≡ true
+          → ((more : List Entry) → Pairwise (IsWritten (own_column table)) xs more → AreSet rows xs entries more) → AreSet (r ∷ rows) new (entry ∷ entries) more
+      written x xs [] more same all is it on = absurd cc
+      written x xs (y ∷ new) [] same all is it on = absurd all
+      written x xs (y ∷ new) (m ∷ more) same all is it on =
+          let first : x ≡ y = head_is same in
+          let rest : xs ≡ new = tail_is same in
+          one_set r y rows new entry m entries more it each.0 rises (is ∙ ap (λ (z : TableRow). Ok z) first) all.0
+          (subst (λ (zs : List TableRow). AreSet rows zs entries more) rest (on more (subst (λ (zs : List TableRow). Pairwise (IsWritten (own_column table)) zs more) (sym rest) all.1)))
+        where
+          head_is : x ∷ xs ≡ y ∷ new → x ≡ y
+          head_is h = cc
+
+          tail_is : x ∷ xs ≡ y ∷ new → xs ≡ new
+          tail_is h = cc
+
+      by : ((new : List TableRow) (more : List Entry) → made table sets is_meant rows ≡ Ok new → Pairwise (IsWritten (own_column table)) new more → AreSet rows new entries more) → (b : Bool) → is_meant r ≡ b → AreSet (r ∷ rows) new (entry ∷ entries) more
+      by on true it =
+          let parts = parts_of (row_set table sets r) (made table sets is_meant rows) new (sym (made_one table sets is_meant r rows it) ∙ e) in
+          written parts.row parts.more new more parts.are all parts.first_is it (λ more all. on parts.more more parts.more_is all)
+      by on false it = one_stays r rows new entry entries more it each.0 rises (on new more (sym (made_none table sets is_meant r rows it) ∙ e) all)
 
   -- where a table may hold the rows, it may hold what they become
   pub fit_now : (rows new : List TableRow) (entries more : List Entry) (set : AreSet rows new entries more) → FitNow table rows set.now
   fit_now rows new entries more set fit =
       let parts = both (is_rising int_cmp (map (λ row. row.0) rows)) (list_all (is_row (with_rows table rows)) rows) fit in
       both_true (is_rising int_cmp (map (λ row. row.0) set.now)) (list_all (is_row (with_rows table rows)) set.now) (ap (is_rising int_cmp) set.ids ∙ parts.0) (set.fit rows parts.1)
-
--- ---- one row among others
-
-with_one_set : (p : TableRow → Bool) (before : List TableRow) (row x : TableRow) (after : List TableRow) → (p row ≡ true → p x ≡ true) → list_all p (before ++ row ∷ after) ≡ true → list_all p (before ++ x ∷ after) ≡ true
-with_one_set p [] row x after on all = (let parts = both (p row) (list_all p after) all in both_true (p x) (list_all p after) (on parts.0) parts.1)
-with_one_set p (k ∷ before) row x after on all =
-    let parts = both (p k) (list_all p (before ++ row ∷ after)) all in both_true (p k) (list_all p (before ++ x ∷ after)) parts.0 (with_one_set p before row x after on parts.1)
-
-same_rowids : (before : List TableRow) (row x : TableRow) (after : List TableRow) → x.0 ≡ row.0 → map (λ (r : TableRow). r.0) (before ++ x ∷ after) ≡ map (λ (r : TableRow). r.0) (before ++ row ∷ after)
-same_rowids [] row x after same = ap (λ (n : ℤ). n ∷ map (λ (r : TableRow). r.0) after) same
-same_rowids (k ∷ before) row x after same = ap (λ (ns : List ℤ). k.0 ∷ ns) (same_rowids before row x after same)
-
-module _ (table : Table) (sets : List (ℕ × Term)) (row x : TableRow) (is : row_set table sets row ≡ Ok x) (m : Entry) (written : IsWritten x m) where
-  parts : (x.0 ≡ row.0) × (values_set table.columns sets (as_source row) ≡ Ok x.1)
-  parts = set_parts table sets row x is
-
-  at : m.rowid ≡ row.0
-  at = ap (λ (n : Entry). n.rowid) written.is ∙ parts.0
-
-  pub set_in_place : (before after : List TableRow) (entries : List Entry) → Pairwise (IsRow (length table.columns)) entries (before ++ row ∷ after) → Rises (before ++ row ∷ after)
-      → Pairwise (IsRow (length table.columns)) (with_replaced m entries) (before ++ x ∷ after)
-  set_in_place [] after [] each rises = absurd each
-  set_in_place [] after (entry ∷ entries) each rises =
-      subst (λ (all : List Entry). Pairwise (IsRow (length table.columns)) all (x ∷ after)) (sym (in_place m entry entries (each.0.rowid ∙ sym at)))
-      (record { rowid = ap (λ (n : Entry). n.rowid) written.is; values = written.values; full = long_set table sets row x.1 each.0.full parts.1 }, each.1)
-  set_in_place (k ∷ before) after [] each rises = absurd each
-  set_in_place (k ∷ before) after (entry ∷ entries) each rises =
-      subst (λ (all : List Entry). Pairwise (IsRow (length table.columns)) all (k ∷ before ++ x ∷ after))
-      (sym (stays_before m entry entries (subst (λ (n : ℤ). n <ℤ m.rowid) (sym each.0.rowid) (subst (λ (n : ℤ). k.0 <ℤ n) (sym at) (climbs_over k.0 before row after rises)))))
-      (each.0, set_in_place before after entries each.1 (rest_rises k (before ++ row ∷ after) rises))
-
-  pub fit_in_place : (before after : List TableRow) → length row.1 ≡ length table.columns → FitNow table (before ++ row ∷ after) (before ++ x ∷ after)
-  fit_in_place before after full fit =
-      let rows = before ++ row ∷ after in
-      let now = before ++ x ∷ after in
-      let halves = both (is_rising int_cmp (map (λ (r : TableRow). r.0) rows)) (list_all (is_row (with_rows table rows)) rows) fit in
-      both_true (is_rising int_cmp (map (λ (r : TableRow). r.0) now)) (list_all (is_row (with_rows table rows)) now) (ap (is_rising int_cmp) (same_rowids before row x after parts.0) ∙ halves.0)
-      (with_one_set (is_row (with_rows table rows)) before row x after
-      (λ was. still_fits table sets (λ r. true) rows row x was parts.0 (long_set table sets row x.1 full parts.1) written.fit) halves.1)

@@ -1,20 +1,18 @@
--- Rows by rising rowid: the last rowid is the greatest, and a row after it comes last.
-use Rattle.std.proofs.Common.{◌≡◌, ℕ, zero, suc, ℤ, pos, ◌+ℤ◌, ◌<ℤ◌, ◌-◌, ◌^◌, ◌&&◌, Bool, true, false, cond, List, [], ◌∷◌, ◌++◌, Option, Some, None, Ok, Err, map, slice_index_or, refl, sym, ap, subst, ◌∙◌, arith}
+-- Rows by rising rowid: the last rowid is the greatest.
+use Rattle.std.proofs.Common.{◌≡◌, ℕ, zero, suc, ℤ, pos, ◌+ℤ◌, ◌<ℤ◌, ◌-◌, ◌^◌, ◌&&◌, Bool, true, false, cond, List, [], ◌∷◌, Option, Some, None, Ok, Err, map, slice_index_or, refl, subst, arith}
 use Rattle.std.specs.Prelude.{unwrap_or, int_lt, if◌then◌else◌, ⊤}
-use Rattle.std.specs.Cmp.{int_cmp_is}
-use Rattle.std.specs.FinMap.Entries.{put, find, by_order}
 use Rattle.std.proofs.lemmas.Bool.{false≢true}
 use Rattle.std.specs.List.{list_all}
-use Rattle.std.specs.Ordering.{int_cmp, is_eq, is_lt}
+use Rattle.std.specs.Ordering.{int_cmp, is_lt}
 use Rattle.std.specs.declared.cmp.Ordering.TheVariants.{Equal, Greater, Less}
 use Rattle.sqlval.specs.Refusals.{Answer, RowidFull}
-use Rattle.sqlval.specs.declared.value.Value.{Value}
 use Rattle.sqlval.specs.Lists.{is_rising}
 use Rattle.tree_leaf.specs.Leaf.{Entry}
 use Rattle.tree_page.specs.Cells.{Pairwise}
 use Rattle.tree_table.specs.SingleLeaf.{AreRising}
 use Rattle.catalog.specs.Database.{Table}
 use Rattle.catalog.specs.Rows.{are_rows, is_row}
+use Rattle.catalog.specs.declared.tables.RowShape.{RowShape}
 use Rattle.row_scan.specs.Rows.{TableRow, IsRow}
 use Rattle.row_change.specs.Constraints.{greatest}
 use Rattle.row_change.specs.Inserting.{rowid_after, last_rowid}
@@ -37,20 +35,20 @@ rest_rising row rows rising (suc j) d le lt =
     before : (j : ℕ) → suc (suc j) - 1 ≡ suc (suc j - 1)
     before j = omega arith
 
-climbs : (width : ℕ) (entry : Entry) (entries : List Entry) (rows : List TableRow) → AreRising (entry ∷ entries) → Pairwise (IsRow width) entries rows → Climbs entry.rowid rows
-climbs width entry [] [] rising each = tt
-climbs width entry [] (row ∷ rows) rising each = absurd each
-climbs width entry (next ∷ entries) [] rising each = absurd each
-climbs width entry (next ∷ entries) (row ∷ rows) rising each = (
+climbs : (shape : RowShape) (entry : Entry) (entries : List Entry) (rows : List TableRow) → AreRising (entry ∷ entries) → Pairwise (IsRow shape) entries rows → Climbs entry.rowid rows
+climbs shape entry [] [] rising each = tt
+climbs shape entry [] (row ∷ rows) rising each = absurd each
+climbs shape entry (next ∷ entries) [] rising each = absurd each
+climbs shape entry (next ∷ entries) (row ∷ rows) rising each = (
   subst (λ n. entry.rowid <ℤ n) each.0.rowid (rising 1 entry (omega arith) (omega arith)),
-  subst (λ n. Climbs n rows) each.0.rowid (climbs width next entries rows (rest_rising entry (next ∷ entries) rising) each.1),
+  subst (λ n. Climbs n rows) each.0.rowid (climbs shape next entries rows (rest_rising entry (next ∷ entries) rising) each.1),
 )
 
-pub rows_rise : (width : ℕ) (entries : List Entry) (rows : List TableRow) → AreRising entries → Pairwise (IsRow width) entries rows → Rises rows
-rows_rise width [] [] rising each = tt
-rows_rise width [] (row ∷ rows) rising each = absurd each
-rows_rise width (entry ∷ entries) [] rising each = absurd each
-rows_rise width (entry ∷ entries) (row ∷ rows) rising each = subst (λ n. Climbs n rows) each.0.rowid (climbs width entry entries rows rising each.1)
+pub rows_rise : (shape : RowShape) (entries : List Entry) (rows : List TableRow) → AreRising entries → Pairwise (IsRow shape) entries rows → Rises rows
+rows_rise shape [] [] rising each = tt
+rows_rise shape [] (row ∷ rows) rising each = absurd each
+rows_rise shape (entry ∷ entries) [] rising each = absurd each
+rows_rise shape (entry ∷ entries) (row ∷ rows) rising each = subst (λ n. Climbs n rows) each.0.rowid (climbs shape entry entries rows rising each.1)
 
 pub both : (a b : Bool) → (a && b) ≡ true → (a ≡ true) × (b ≡ true)
 both true b h = (refl, h)
@@ -105,27 +103,6 @@ pub next_is : (last : Option ℤ) → next_for last ≡ rowid_after last
 next_is None = refl
 next_is (Some x) = refl
 
--- ---- one row after them
-
--- each rowid is below this one
-abbrev pub AreBelow : ℤ → List TableRow → Type 0
-AreBelow rowid [] = ⊤
-AreBelow rowid (row ∷ rows) = (row.0 <ℤ rowid) × AreBelow rowid rows
-
-below_from : (rowid : ℤ) (row : TableRow) (rows : List TableRow) → Climbs row.0 rows → unwrap_or (last_rowid rows) row.0 <ℤ rowid → AreBelow rowid (row ∷ rows)
-below_from rowid row [] climb lt = (lt, tt)
-below_from rowid row (next ∷ rows) climb lt = (further row.0 (unwrap_or (last_rowid rows) next.0) rowid (above row.0 next rows climb) lt, below_from rowid next rows climb.1 lt)
-
-some_below : (rowid : ℤ) (rows : List TableRow) → Rises rows → (last : ℤ) → last_rowid rows ≡ Some last → last <ℤ rowid → AreBelow rowid rows
-some_below rowid [] rises last e lt = tt
-some_below rowid (row ∷ rows) rises last e lt = below_from rowid row rows rises (subst (λ n. n <ℤ rowid) (sym (same (unwrap_or (last_rowid rows) row.0) last e)) lt)
-  where
-    same : (a b : ℤ) → Some a ≡ Some b → a ≡ b
-    same a b e = ap (λ o. unwrap_or o a) e
-
-one_up : (n m : ℤ) → m ≡ n +ℤ pos 1 → n <ℤ m
-one_up n m e = grind (arith)
-
 abbrev given : ℤ → Answer ℤ
 given n = Ok n
 
@@ -135,47 +112,3 @@ same_rowid a b e = cc
 pub is_next : (b : Bool) (n rowid : ℤ) → cond b (Ok (n +ℤ pos 1)) (Err RowidFull) ≡ Ok rowid → rowid ≡ n +ℤ pos 1
 is_next true n rowid e = same_rowid (n +ℤ pos 1) rowid e
 is_next false n rowid e = absurd cc
-
-no_last : (rowid : ℤ) (rows : List TableRow) → last_rowid rows ≡ None → AreBelow rowid rows
-no_last rowid [] e = tt
-no_last rowid (row ∷ rows) e = absurd cc
-
--- the rows are below the rowid after them
-pub rows_below : (rowid : ℤ) (rows : List TableRow) → Rises rows → rowid_after (last_rowid rows) ≡ Ok rowid → AreBelow rowid rows
-rows_below rowid rows rises e = by_last (last_rowid rows) refl
-  where
-    by_last : (last : Option ℤ) → last_rowid rows ≡ last → AreBelow rowid rows
-    by_last None h = no_last rowid rows h
-    by_last (Some n) h =
-        some_below rowid rows rises n h (one_up n rowid (is_next (int_lt n (pos (2 ^ 63 - 1))) n rowid (sym (ap rowid_after h) ∙ e)))
-
-climbs_on : (low rowid : ℤ) (values : List Value) (rows : List TableRow) → low <ℤ rowid → Climbs low rows → AreBelow rowid rows → Climbs low (rows ++ (rowid, values) ∷ [])
-climbs_on low rowid values [] lt climb below = (lt, tt)
-climbs_on low rowid values (row ∷ rows) lt climb below = (climb.0, climbs_on row.0 rowid values rows below.0 climb.1 below.1)
-
-pub rises_on : (rowid : ℤ) (values : List Value) (rows : List TableRow) → Rises rows → AreBelow rowid rows → Rises (rows ++ (rowid, values) ∷ [])
-rises_on rowid values [] rises below = tt
-rises_on rowid values (row ∷ rows) rises below = climbs_on row.0 rowid values rows below.0 rises below.1
-
-last_from : (start : ℤ) (row : TableRow) (rows : List TableRow) → unwrap_or (last_rowid (rows ++ row ∷ [])) start ≡ row.0
-last_from start row [] = refl
-last_from start row (next ∷ rows) = last_from next.0 row rows
-
-pub last_of_more : (rows : List TableRow) (row : TableRow) → last_rowid (rows ++ row ∷ []) ≡ Some row.0
-last_of_more [] row = refl
-last_of_more (next ∷ rows) row = ap (λ (n : ℤ). Some n) (last_from next.0 row rows)
-
-greater : (a b : ℤ) → b <ℤ a → int_cmp a b ≡ Greater
-greater a b lt = sym (int_cmp_is a b Greater lt)
-
--- it isn't there yet
-pub not_found : (rowid : ℤ) (rows : List TableRow) → AreBelow rowid rows → find int_cmp rowid rows ≡ None
-not_found rowid [] below = refl
-not_found rowid (row ∷ rows) below = ap (λ o. cond (is_eq o) (Some row.1) (find int_cmp rowid rows)) (greater rowid row.0 below.0) ∙ not_found rowid rows below.1
-
--- it is put after them
-pub put_behind : (rowid : ℤ) (values : List Value) (rows : List TableRow) → AreBelow rowid rows → put int_cmp rowid values rows ≡ rows ++ (rowid, values) ∷ []
-put_behind rowid values [] below = refl
-put_behind rowid values (row ∷ rows) below =
-    ap (λ o. by_order o ((rowid, values) ∷ row ∷ rows) ((row.0, values) ∷ rows) (row ∷ put int_cmp rowid values rows)) (greater rowid row.0 below.0)
-    ∙ ap (λ (rest : List TableRow). row ∷ rest) (put_behind rowid values rows below.1)

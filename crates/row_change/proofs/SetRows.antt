@@ -1,14 +1,15 @@
 -- What SET makes of rows, one after another.
-use Rattle.std.proofs.Common.{◌≡◌, refl, sym, ap, subst, ◌∙◌, inl, inr, ◌<◌, ◌≤◌, ◌+◌, ℕ, zero, suc, Bool, true, false, List, [], ◌∷◌, ◌++◌, length, map, drop, min, Option, Some, None, Result, Ok, Err, arith}
-use Rattle.std.specs.Prelude.{IfErr, IsErrAnd, if◌then◌else◌, unwrap_or, zip}
+use Rattle.std.proofs.Common.{◌≡◌, refl, sym, ap, subst, ◌∙◌, inl, inr, ◌<◌, ◌≤◌, ◌+◌, ℕ, zero, suc, ℤ, Bool, true, false, List, [], ◌∷◌, ◌++◌, length, map, drop, min, Option, Some, None, Result, Ok, Err, arith}
+use Rattle.std.specs.Prelude.{IfErr, IsErrAnd, if◌then◌else◌, slice_get, unwrap_or, zip}
 use Rattle.std.proofs.lemmas.List.{append-nil, map_push}
 use Rattle.sqlval.specs.Conversion.{converted}
 use Rattle.sqlval.specs.Faults.{IsNotDiskFault}
-use Rattle.sqlval.specs.Refusals.{Answer, ◌then◌, all_answers}
+use Rattle.sqlval.specs.Refusals.{Answer, ◌then◌, RowidMismatch, all_answers}
 use Rattle.sqlval.specs.declared.fault.Fault.{Fault}
 use Rattle.sqlval.specs.declared.value.Value.{Value}
+use Rattle.sqlval.specs.declared.value.Value.TheVariants.{Null, Int, Text, Blob}
 use Rattle.catalog.specs.Database.{TableColumn}
-use Rattle.catalog.specs.Listed.{as_column}
+use Rattle.catalog.specs.Listed.{as_column, own_column}
 use Rattle.catalog.specs.declared.tables.Column.{Column}
 use Rattle.catalog.specs.declared.tables.Table.{Table}
 use Rattle.query_names.specs.Readings.{env_of, holds, values}
@@ -21,7 +22,8 @@ use Rattle.query_terms.proofs.Quiet.{IsQuiet, each, memory_is_quiet, next, of_co
 use Rattle.query_names.proofs.QuietValues.{of_holds, of_values}
 use Rattle.row_scan.specs.Rows.{TableRow}
 use Rattle.row_change.specs.Constraints.{set_values, with_affinity}
-use Rattle.row_change.specs.Setting.{is_meant_for, rowid_number, rows_changed, rows_meant, set_over, source_set, values_set}
+use Rattle.row_change.specs.Demands.{demanded}
+use Rattle.row_change.specs.Setting.{is_meant_for, rowid_left, rowid_number, rows_changed, rows_meant, set_over, source_set, values_set}
 use Rattle.row_change.proofs.Demanded.{of_demanded}
 
 -- ---- values
@@ -109,6 +111,9 @@ of_stored (c ∷ columns) (v ∷ values) =
     next (converted c.affinity v) (λ w. with_affinity columns values then λ ws. Ok (w ∷ ws)) (of_converted c.affinity v)
     (λ w. next (with_affinity columns values) (λ ws. Ok (w ∷ ws)) (of_stored columns values) (λ ws. tt))
 
+abbrev integer_in : Value → Answer ℤ
+integer_in v = elim v [ Int n ↦ Ok n | _ ↦ Err RowidMismatch ]
+
 of_over : (sets : List (ℕ × Term)) (seen : Environment) (before : List Value) → IsQuiet (set_over sets seen before)
 of_over sets seen before = by (values seen (map (λ s. s.1) sets)) (of_values seen (map (λ s. s.1) sets))
   where
@@ -116,11 +121,21 @@ of_over sets seen before = by (values seen (map (λ s. s.1) sets)) (of_values se
     by (Ok given) h = tt
     by (Err r) h = h
 
+of_left : (own : Option ℕ) (rowid : ℤ) (values : List Value) → IsQuiet (rowid_left own rowid values)
+of_left None rowid values = tt
+of_left (Some place) rowid values = by (unwrap_or (slice_get values place) Null)
+  where
+    by : (v : Value) → IsQuiet (integer_in v)
+    by Null = tt
+    by (Int n) = tt
+    by (Text t) = tt
+    by (Blob b) = tt
+
 of_set : (table : Table) (sets : List (ℕ × Term)) (row : Row) → IsQuiet (source_set table sets row)
 of_set table sets row =
     next (values_set table.columns sets row) _
     (next (set_over sets (env_of (row ∷ [])) row.values) (with_affinity (map as_column table.columns)) (of_over sets (env_of (row ∷ [])) row.values) (λ values. of_stored (map as_column table.columns) values))
-    (λ values. of_demanded table (rowid_number row.rowid, values))
+    (λ values. next (rowid_left (own_column table) (rowid_number row.rowid) values) (λ now. demanded table (now, values)) (of_left (own_column table) (rowid_number row.rowid) values) (λ now. of_demanded table (now, values)))
 
 quietly : {A : Type 0} (a : Answer A) (f : Fault) → IsQuiet a → IsRefusedBy a f → IsNotDiskFault f
 quietly a f quiet (inl memory) = memory_is_quiet f memory

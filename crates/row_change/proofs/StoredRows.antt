@@ -1,7 +1,6 @@
 -- What the rows given become, column by column and row by row.
-use Rattle.std.proofs.Common.{◌≡◌, ◌⊎◌, inl, inr, ℕ, suc, ℤ, ◌<◌, ◌+◌, List, [], ◌∷◌, ◌++◌, Option, Some, None, Result, Ok, Err, length, map, drop, slice_index_or, refl, sym, ap, subst, ◌∙◌, append_assoc, arith}
+use Rattle.std.proofs.Common.{◌≡◌, ◌⊎◌, inl, inr, ℕ, suc, ℤ, ◌<◌, List, [], ◌∷◌, Option, None, Result, Ok, Err, length, slice_index_or, refl, sym, ap, subst, ◌∙◌, arith}
 use Rattle.std.specs.Prelude.{IfOk, IfErr}
-use Rattle.std.proofs.lemmas.List.{drop_more, map_push}
 use Rattle.sqlval.specs.Affinity.{Converts, IsReal, IsConversionFault, WantsNumbers}
 use Rattle.sqlval.specs.Conversion.{converted}
 use Rattle.sqlval.specs.Refusals.{Answer, ◌then◌, Refusal, RealRefused}
@@ -10,14 +9,16 @@ use Rattle.sqlval.specs.declared.affinity.Affinity.TheVariants as to
 use Rattle.sqlval.specs.declared.fault.Fault.{Fault}
 use Rattle.sqlval.specs.declared.fault.Fault.TheVariants as f
 use Rattle.sqlval.specs.declared.value.Value.{Value}
-use Rattle.sqlval.specs.declared.value.Value.TheVariants.{Null}
+use Rattle.sqlval.specs.declared.value.Value.TheVariants.{Null, Int}
+use Rattle.record.specs.Writing.{AreStorable}
+use Rattle.catalog.specs.Listed.{own_column}
 use Rattle.catalog.specs.declared.tables.Column.{Column}
 use Rattle.catalog.specs.declared.tables.Table.{Table}
 use Rattle.row_scan.specs.Rows.{TableRow}
 use Rattle.query_terms.specs.Laws.{ConvertsAsRelated, RefusesReals}
 use Rattle.row_change.specs.Demands.{demanded}
-use Rattle.row_change.specs.Inserting.{given_for, row_stored, rowid_after, row_added, rows_added}
-use Rattle.row_change.proofs.Demanded.{is_demanded}
+use Rattle.row_change.specs.Inserting.{given_for, own_value, row_added, row_stored, rowid_given, with_own_value}
+use Rattle.row_change.proofs.Demanded.{demanded_fits, is_demanded}
 
 -- ---- one value
 
@@ -85,80 +86,45 @@ column_refused columns places given values index column place fault long each lt
           (subst (λ k. converted (slice_index_or columns k column).affinity (given_for (slice_index_or columns k column) given (slice_index_or places k None)) ≡ Err RealRefused) (sym long) here),
     )
 
--- ---- row by row
-
--- with these rows in front
-abbrev pub after_rows : List TableRow → Answer (List TableRow) → Answer (List TableRow)
-after_rows rows answer = answer then λ more. Ok (rows ++ more)
-
-one_in_front : (rows : List TableRow) (row : TableRow) (answer : Answer (List TableRow)) → after_rows rows (answer then λ more. Ok (row ∷ more)) ≡ after_rows (rows ++ row ∷ []) answer
-one_in_front rows row (Ok more) = ap (λ (xs : List TableRow). Ok xs) (sym (append_assoc rows (row ∷ []) more))
-one_in_front rows row (Err r) = refl
-
-pub row_after : (table : Table) (places : List (Option ℕ)) (last : Option ℤ) (given : List Value) (rest : List (List Value)) (rows : List TableRow) (row : TableRow) → row_added table places last given ≡ Ok row
-    → after_rows rows (rows_added table places last (given ∷ rest)) ≡ after_rows (rows ++ row ∷ []) (rows_added table places (Some row.0) rest)
-row_after table places last given rest rows row e =
-    ap (λ (a : Answer TableRow). after_rows rows (a then λ row. rows_added table places (Some row.0) rest then λ added. Ok (row ∷ added))) e
-    ∙ one_in_front rows row (rows_added table places (Some row.0) rest)
-
--- one row on, the rows so far and those after them are still those of all
-pub rows_go_on : {R N : Type 0} (table : Table) (places : List (Option ℕ)) (g : R → List Value) (h : N → TableRow) (rows : List R) (i : ℕ) (row : R) (done : List N) (new : N) (before after : Option ℤ) (all : Answer (List TableRow))
-    → i < length rows → row ≡ slice_index_or rows i row → row_added table places before (g row) ≡ Ok (h new) → after ≡ Some (h new).0
-    → after_rows (map h done) (rows_added table places before (map g (drop i rows))) ≡ all → after_rows (map h (done ++ new ∷ [])) (rows_added table places after (map g (drop (i + 1) rows))) ≡ all
-rows_go_on table places g h rows i row done new before after all lt is one after_is so_far =
-    ap (λ rs. after_rows rs (rows_added table places after (map g (drop (i + 1) rows)))) (map_push h done new)
-    ∙ (ap (λ last. after_rows (map h done ++ h new ∷ []) (rows_added table places last (map g (drop (i + 1) rows)))) after_is
-    ∙ (sym (row_after table places before (g row) (map g (drop (i + 1) rows)) (map h done) (h new) one)
-    ∙ (ap (λ rs. after_rows (map h done) (rows_added table places before (map g rs))) (sym (drop_more rows i row lt ∙ ap (λ r. r ∷ drop (i + 1) rows) (sym is))) ∙ so_far)))
-
 -- ---- the parts of an answer
-
-abbrev given_rows : List TableRow → Answer (List TableRow)
-given_rows rows = Ok rows
 
 abbrev given_values : List Value → Answer (List Value)
 given_values values = Ok values
 
-pub same_rows : (a b : List TableRow) → given_rows a ≡ given_rows b → a ≡ b
-same_rows a b e = cc
-
 same_values : (a b : List Value) → given_values a ≡ given_values b → a ≡ b
 same_values a b e = cc
 
--- what a row is made of
-pub row_parts : (table : Table) (places : List (Option ℕ)) (last : Option ℤ) (given : List Value) (row : TableRow) → row_added table places last given ≡ Ok row
-    → (row_stored table.columns places given ≡ Ok row.1) × (rowid_after last ≡ Ok row.0)
-row_parts table places last given row e = by (row_stored table.columns places given) (rowid_after last) e
-  where
-    by : (a : Answer (List Value)) (b : Answer ℤ) → (a then λ values. b then λ rowid. demanded table (rowid, values)) ≡ Ok row → (a ≡ Ok row.1) × (b ≡ Ok row.0)
-    by (Ok values) (Ok rowid) h =
-        let same : (rowid, values) ≡ row = is_demanded table (rowid, values) row h in
-        (ap (λ (r : TableRow). Ok r.1) same, ap (λ (r : TableRow). Ok r.0) same)
-    by (Ok values) (Err r) h = absurd cc
-    by (Err r) b h = absurd cc
+-- what a row is made of: the values that the columns store, its rowid, and this in its own column
+pub record RowParts (table : Table) (places : List (Option ℕ)) (last : Option ℤ) (given : List Value) (row : TableRow) : Type 0 where
+  pub values : List Value
+  pub stored : row_stored table.columns places given ≡ Ok values
+  pub rowid : rowid_given last (own_value (own_column table) values) ≡ Ok row.0
+  pub are : with_own_value (own_column table) (Int row.0) values ≡ row.1
+  pub fits : AreStorable row.1
 
--- the first row and those after it
-pub record Parts (table : Table) (places : List (Option ℕ)) (last : Option ℤ) (given : List Value) (rest : List (List Value)) (rows : List TableRow) : Type 0 where
-  pub row : TableRow
-  pub more : List TableRow
-  pub first_is : row_added table places last given ≡ Ok row
-  pub more_is : rows_added table places (Some row.0) rest ≡ Ok more
-  pub are : row ∷ more ≡ rows
+module _ (table : Table) (places : List (Option ℕ)) (last : Option ℤ) (given : List Value) (row : TableRow) where
+  -- the row of these values and this rowid, as it is demanded
+  abbrev made : List Value → ℤ → Answer TableRow
+  made values rowid = demanded table (rowid, with_own_value (own_column table) (Int rowid) values)
 
-pub rows_parts : (table : Table) (places : List (Option ℕ)) (last : Option ℤ) (given : List Value) (rest : List (List Value)) (rows : List TableRow) → rows_added table places last (given ∷ rest) ≡ Ok rows
-    → Parts table places last given rest rows
-rows_parts table places last given rest rows e = by (row_added table places last given) refl e
-  where
-    by_more : (row : TableRow) → row_added table places last given ≡ Ok row → (b : Answer (List TableRow)) → rows_added table places (Some row.0) rest ≡ b → (b then λ added. Ok (row ∷ added)) ≡ Ok rows → Parts table places last given rest rows
-    by_more row is (Ok more) more_is h = record { row = row; more = more; first_is = is; more_is = more_is; are = same_rows (row ∷ more) rows h }
-    by_more row is (Err r) more_is h = absurd cc
+  parts_of : (values : List Value) (b : Answer ℤ) → row_stored table.columns places given ≡ Ok values → rowid_given last (own_value (own_column table) values) ≡ b → (b then made values) ≡ Ok row → RowParts table places last given row
+  parts_of values (Ok rowid) is it h =
+      let same : (rowid, with_own_value (own_column table) (Int rowid) values) ≡ row = is_demanded table (rowid, with_own_value (own_column table) (Int rowid) values) row h in
+      record {
+        values = values;
+        stored = is;
+        rowid = it ∙ ap (λ (r : TableRow). Ok r.0) same;
+        are = ap (λ (n : ℤ). with_own_value (own_column table) (Int n) values) (sym (ap (λ (r : TableRow). r.0) same)) ∙ ap (λ (r : TableRow). r.1) same;
+        fits = demanded_fits table (rowid, with_own_value (own_column table) (Int rowid) values) row h;
+      }
+  parts_of values (Err r) is it h = absurd cc
 
-    by : (a : Answer TableRow) → row_added table places last given ≡ a → (a then λ row. rows_added table places (Some row.0) rest then λ added. Ok (row ∷ added)) ≡ Ok rows → Parts table places last given rest rows
-    by (Ok row) is h = by_more row is (rows_added table places (Some row.0) rest) refl h
-    by (Err r) is h = absurd cc
-
-pub no_rows : (rows : List TableRow) → given_rows [] ≡ Ok rows → [] ≡ rows
-no_rows rows e = same_rows [] rows e
+  pub row_parts : row_added table places last given ≡ Ok row → RowParts table places last given row
+  row_parts e = by (row_stored table.columns places given) refl e
+    where
+      by : (a : Answer (List Value)) → row_stored table.columns places given ≡ a → (a then λ values. rowid_given last (own_value (own_column table) values) then made values) ≡ Ok row → RowParts table places last given row
+      by (Ok values) is h = parts_of values (rowid_given last (own_value (own_column table) values)) is refl h
+      by (Err r) is h = absurd cc
 
 -- ---- as many values as columns
 

@@ -18,6 +18,7 @@ use Rattle.tree_table.specs.Rows.{without_row, with_change, with_changes}
 use Rattle.tree_table.proofs.Orders.{less_not, same_or_other}
 use Rattle.catalog.specs.Listed.{with_rows}
 use Rattle.catalog.specs.Rows.{are_rows, is_row}
+use Rattle.catalog.specs.declared.tables.RowShape.{RowShape}
 use Rattle.catalog.specs.declared.tables.Table.{Table}
 use Rattle.query_names.specs.declared.queries.BoundSource.{BoundSource}
 use Rattle.query_terms.specs.Outcome.{IsRefusedBy}
@@ -137,22 +138,22 @@ stays_first (rowid ∷ rowids) first rows less =
 gone_first : (first : Entry) (rows : List Entry) (rowid : ℤ) → first.rowid ≡ rowid → without_row rowid (first ∷ rows) ≡ rows
 gone_first first rows rowid same = ap (λ (b : Bool). if b then rows else first ∷ without_row rowid rows) (elim (same_or_other first.rowid rowid) [ inl is ↦ is.0 | inr other ↦ absurd (other.1 same) ])
 
-module _ (width : ℕ) (gone : TableRow → Bool) where
+module _ (shape : RowShape) (gone : TableRow → Bool) where
   abbrev stays : TableRow → Bool
   stays row = not (gone row)
 
-  left_are : (entries : List Entry) (rows : List TableRow) → Pairwise (IsRow width) entries rows → Rises rows → Pairwise (IsRow width) (without_rows (rowids_in (filter gone rows)) entries) (filter stays rows)
+  left_are : (entries : List Entry) (rows : List TableRow) → Pairwise (IsRow shape) entries rows → Rises rows → Pairwise (IsRow shape) (without_rows (rowids_in (filter gone rows)) entries) (filter stays rows)
   left_are [] [] each rises = tt
   left_are [] (row ∷ rows) each rises = absurd each
   left_are (entry ∷ entries) [] each rises = absurd each
   left_are (entry ∷ entries) (row ∷ rows) each rises = by (left_are entries rows each.1 (rest_rises row rows rises)) (gone row)
     where
-      by : Pairwise (IsRow width) (without_rows (rowids_in (filter gone rows)) entries) (filter stays rows)
-          → (b : Bool) → Pairwise (IsRow width) (without_rows (rowids_in (cond b (row ∷ filter gone rows) (filter gone rows))) (entry ∷ entries)) (cond (not b) (row ∷ filter stays rows) (filter stays rows))
+      by : Pairwise (IsRow shape) (without_rows (rowids_in (filter gone rows)) entries) (filter stays rows)
+          → (b : Bool) → Pairwise (IsRow shape) (without_rows (rowids_in (cond b (row ∷ filter gone rows) (filter gone rows))) (entry ∷ entries)) (cond (not b) (row ∷ filter stays rows) (filter stays rows))
       by rest true =
-          subst (λ (all : List Entry). Pairwise (IsRow width) (without_rows (rowids_in (filter gone rows)) all) (filter stays rows)) (sym (gone_first entry entries row.0 each.0.rowid)) rest
+          subst (λ (all : List Entry). Pairwise (IsRow shape) (without_rows (rowids_in (filter gone rows)) all) (filter stays rows)) (sym (gone_first entry entries row.0 each.0.rowid)) rest
       by rest false =
-          subst (λ (all : List Entry). Pairwise (IsRow width) all (row ∷ filter stays rows))
+          subst (λ (all : List Entry). Pairwise (IsRow shape) all (row ∷ filter stays rows))
           (sym (stays_first (rowids_in (filter gone rows)) entry entries (subst (λ (n : ℤ). AreOver n (rowids_in (filter gone rows))) (sym each.0.rowid) (over gone row.0 rows rises)))) (each.0, rest)
 
 -- ---- what the calls answer
@@ -188,7 +189,7 @@ module _ (old new : PageMap) (size : ℕ) (table : BoundSource) (condition : Ter
       known = chosen_and_left condition rows rowids (ap rowids_of (sym enough.same) ∙ chosen_are enough.some enough.are)
 
       rises : Rises rows
-      rises = rows_rise table.width entries rows (tree_rises old size table.root entries used is.tree) each
+      rises = rows_rise table.shape entries rows (tree_rises old size table.root entries used is.tree) each
 
       by : (r : Result ⊤ Fault) → MatchResult r (λ done. BecomesRows old new size table.root (without_rows rowids entries) used free) IsOutsideOrFull
           → MatchResult r (λ done. AreTakenOut old new size table condition rows used free) (IsTakeRefusal condition rows)
@@ -197,7 +198,7 @@ module _ (old new : PageMap) (size : ℕ) (table : BoundSource) (condition : Ter
         answer = known.1;
         entries = without_rows rowids entries;
         becomes = becomes;
-        each = subst (λ (ids : List ℤ). Pairwise (IsRow table.width) (without_rows ids entries) (filter (λ row. not (is_chosen condition row)) rows)) (sym known.0)
-            (left_are table.width (is_chosen condition) entries rows each rises);
+        each = subst (λ (ids : List ℤ). Pairwise (IsRow table.shape) (without_rows ids entries) (filter (λ row. not (is_chosen condition row)) rows)) (sym known.0)
+            (left_are table.shape (is_chosen condition) entries rows each rises);
       }
       by (Err fault) cannot = inl cannot

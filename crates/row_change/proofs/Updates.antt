@@ -1,41 +1,38 @@
 -- An UPDATE of some rows of a listed table, row by row.
-use Rattle.std.proofs.Common.{◌≡◌, refl, sym, ap, subst, ◌∙◌, ℕ, ℤ, ◌<ℤ◌, Bool, true, false, cond, List, [], ◌∷◌, ◌++◌, append_assoc, map, Option, Some, None, Ok, Err}
-use Rattle.std.specs.Prelude.{filter, zip}
+use Rattle.std.proofs.Common.{◌≡◌, refl, sym, ap, subst, ◌∙◌, ℕ, ℤ, Bool, true, false, cond, List, [], ◌∷◌, ◌++◌, append_assoc, map, Option, Some, None, Ok, Err}
+use Rattle.std.specs.Prelude.{filter, slice_get, unwrap_or, zip}
 use Rattle.std.specs.Cmp.{int_cmp_is}
 use Rattle.std.specs.FinMap.Entries.{put, find, by_order}
 use Rattle.std.specs.Ordering.{int_cmp, is_eq}
 use Rattle.std.specs.declared.cmp.Ordering.TheVariants.{Greater, Less}
 use Rattle.sqlval.specs.Names.{folded}
-use Rattle.sqlval.specs.Refusals.{Answer, ◌then◌, Unique, all_answers, fold_answer}
+use Rattle.sqlval.specs.Refusals.{Answer, ◌then◌, RowidMismatch, all_answers, fold_answer}
 use Rattle.sqlval.specs.declared.value.Value.{Value}
-use Rattle.catalog.specs.Database as database
+use Rattle.sqlval.specs.declared.value.Value.TheVariants.{Null, Int}
 use Rattle.catalog.specs.Database.{Name, Database, ATable, row, with_object, without_row}
 use Rattle.catalog.specs.Laws.{KeepsOnlyPlain}
-use Rattle.catalog.specs.Listed.{has_only_plain, with_rows, as_column}
+use Rattle.catalog.specs.Listed.{has_only_plain, own_column, with_rows, as_column}
 use Rattle.catalog.specs.Named.{KeepsNamed, OneDatabase}
 use Rattle.catalog.specs.declared.tables.Table.{Table}
 use Rattle.row_scan.specs.Rows.{TableRow}
 use Rattle.query_terms.specs.Terms.{Term}
 use Rattle.row_change.specs.Agreement.{HasIndexesOf, IsStill, SetsAsEach, UpdatesSome, has_unique}
 use Rattle.row_change.specs.Changes.{no_outer}
-use Rattle.row_change.specs.Constraints.{can_be_stored, checks_hold, demand, not_null_holds, row_of, set_values, stored, table_of, with_affinity}
+use Rattle.row_change.specs.Constraints.{set_values, stored, table_of, updated_rowid, with_affinity}
 use Rattle.row_change.specs.Demands.{admitted, demanded, is_alone}
 use Rattle.row_change.specs.RowChanges.{Fire, update_row}
 use Rattle.query_names.specs.Readings.{env_of, values}
 use Rattle.row_scan.specs.Sources.{as_source}
-use Rattle.row_change.specs.Setting.{row_set, rows_beside, rows_meant_set, rows_turned}
+use Rattle.row_change.specs.Setting.{row_set, rowid_left, rows_beside, rows_meant_set, rows_turned, values_set}
 use Rattle.row_change.specs.Choosing.{is_chosen, tested}
-use Rattle.row_change.proofs.Alone.{alone_is, free_alone, indexes_stay}
+use Rattle.row_change.proofs.Alone.{free_alone, indexes_stay}
 use Rattle.row_change.proofs.Deletions.{climbs_over, found_behind, gone_behind, put_itself, rest_rises, same_values}
-use Rattle.row_change.proofs.Folding.{KeepsTables, put_again, put_there, tables_kept}
-use Rattle.row_change.proofs.Rising.{Climbs, Rises, fit_rows_rise, further}
-use Rattle.row_change.proofs.Replaced.{set_parts}
+use Rattle.row_change.proofs.Demanded.{is_demanded}
+use Rattle.row_change.proofs.Folding.{KeepsTables, put_again, put_there, stored_as, tables_kept}
+use Rattle.row_change.proofs.Placed.{AreThere, is_admitted, lower, others_there, raised, rises_filter}
+use Rattle.row_change.proofs.Rising.{Climbs, Rises, fit_rows_rise}
 
 -- ---- a row between others
-
-lower : (a b : ℤ) (rows : List TableRow) → a <ℤ b → Climbs b rows → Climbs a rows
-lower a b [] lt climb = tt
-lower a b (r ∷ rows) lt climb = (further a b r.0 lt climb.0, climb.1)
 
 -- a rowid below all isn't there, and a row of it is put first
 not_among : (id : ℤ) (rows : List TableRow) → Climbs id rows → find int_cmp id rows ≡ None
@@ -78,10 +75,20 @@ rise_with (k ∷ kept) r rows values rises = climb_with k.0 kept r rows values r
 abbrev given_row : TableRow → Answer TableRow
 given_row row = Ok row
 
+-- what SET makes of a row keeps its rowid, where no column holds that
+set_keeps : (table : Table) (sets : List (ℕ × Term)) (row now : TableRow) → own_column table ≡ None → row_set table sets row ≡ Ok now → now.0 ≡ row.0
+set_keeps table sets row now bare e =
+    by (values_set table.columns sets (as_source row))
+    (subst (λ (o : Option ℕ). (values_set table.columns sets (as_source row) then λ values. rowid_left o row.0 values then λ rowid. demanded table (rowid, values)) ≡ Ok now) bare e)
+  where
+    by : (a : Answer (List Value)) → (a then λ values. demanded table (row.0, values)) ≡ Ok now → now.0 ≡ row.0
+    by (Ok values) h = ap (λ (r : TableRow). r.0) (sym (is_demanded table (row.0, values) now h))
+    by (Err f) h = absurd cc
+
 -- a row among others becomes what SET makes of it, and then the others are next
-pub turned_one : (table : Table) (sets : List (ℕ × Term)) (kept : List TableRow) (r : TableRow) (rows olds : List TableRow) → Rises (kept ++ (r ∷ rows))
+pub turned_one : (table : Table) (sets : List (ℕ × Term)) (kept : List TableRow) (r : TableRow) (rows olds : List TableRow) → own_column table ≡ None → Rises (kept ++ (r ∷ rows))
     → rows_turned table sets (kept ++ (r ∷ rows)) (r ∷ olds) ≡ (row_set table sets r then λ new. admitted table (kept ++ rows) new then λ new. rows_turned table sets (kept ++ (new ∷ rows)) olds)
-turned_one table sets kept r rows olds rises = by (row_set table sets r) refl
+turned_one table sets kept r rows olds bare rises = by (row_set table sets r) refl
   where
     beside : rows_beside r.0 (kept ++ (r ∷ rows)) ≡ kept ++ rows
     beside = gone_behind kept r rows rises
@@ -90,14 +97,17 @@ turned_one table sets kept r rows olds rises = by (row_set table sets r) refl
         → (admitted table (rows_beside r.0 (kept ++ (r ∷ rows))) new then λ new. rows_turned table sets (put int_cmp new.0 new.1 (rows_beside r.0 (kept ++ (r ∷ rows)))) olds)
         ≡ (admitted table (kept ++ rows) new then λ new. rows_turned table sets (kept ++ (new ∷ rows)) olds)
     by_alone new same true h =
+        let free : find int_cmp new.0 (kept ++ rows) ≡ None = subst (λ (n : ℤ). find int_cmp n (kept ++ rows) ≡ None) (sym same) (not_left kept r rows rises) in
         let put_is : put int_cmp new.0 new.1 (kept ++ rows) ≡ kept ++ (new ∷ rows) =
         subst (λ (n : ℤ). put int_cmp n new.1 (kept ++ rows) ≡ kept ++ ((n, new.1) ∷ rows)) (sym same) (put_back kept r rows new.1 rises) in
-        rw (beside, h, put_is) refl
-    by_alone new same false h = rw (beside, h) refl
+        rw (beside, free, h, put_is) refl
+    by_alone new same false h =
+        let free : find int_cmp new.0 (kept ++ rows) ≡ None = subst (λ (n : ℤ). find int_cmp n (kept ++ rows) ≡ None) (sym same) (not_left kept r rows rises) in
+        rw (beside, free, h) refl
 
     by : (a : Answer TableRow) → row_set table sets r ≡ a
         → rows_turned table sets (kept ++ (r ∷ rows)) (r ∷ olds) ≡ (row_set table sets r then λ new. admitted table (kept ++ rows) new then λ new. rows_turned table sets (kept ++ (new ∷ rows)) olds)
-    by (Ok new) e = rw (e) (by_alone new (set_parts table sets r new e).0 (is_alone table new (kept ++ rows)) refl)
+    by (Ok new) e = rw (e) (by_alone new (set_keeps table sets r new bare e) (is_alone table new (kept ++ rows)) refl)
     by (Err f) e = rw (e) refl
 
 -- ---- some rows
@@ -110,159 +120,143 @@ module _ (fire : Fire) (name : Name) (table : Table) (sets : List (ℕ × Term))
   abbrev values_over : TableRow → Answer (List Value)
   values_over r = values (env_of (as_source r ∷ [])) (map (λ s. s.1) sets)
 
-  -- a row that the table demands, and that is alone, is stored where it was
-  stored_back : (db : Database) (kept : List TableRow) (r : TableRow) (rows : List TableRow) (values : List Value) → HasIndexesOf db name table → Rises (kept ++ (r ∷ rows))
-      → stored db name (with_rows table (kept ++ rows)) r.0 values
-      ≡ (demanded table (r.0, values) then λ new. admitted table (kept ++ rows) new then λ new. Ok (having_rows db (kept ++ (new ∷ rows))))
-  stored_back db kept r rows values has rises =
-      by (not_null_holds (map as_column table.columns) values) (can_be_stored values) (checks_hold (row_of r.0 values) table.checks) (is_alone table (r.0, values) (kept ++ rows)) refl refl refl refl
+  abbrev own : Option ℕ
+  own = own_column table
+
+  -- what the row becomes, where it is alone among the rows without it
+  abbrev turned : List TableRow → TableRow → Answer TableRow
+  turned now old = row_set table sets old then λ new. admitted table (rows_beside old.0 now) new
+
+  abbrev with_turned : Database → List TableRow → TableRow → Answer TableRow → Answer Database
+  with_turned db now old a = a then λ new. Ok (having_rows db (put int_cmp new.0 new.1 (rows_beside old.0 now)))
+
+  rowid_is : (now : List TableRow) (rowid : ℤ) (vs : List Value) → updated_rowid (with_rows table now) rowid vs ≡ rowid_left own rowid vs
+  rowid_is now rowid vs = by own
     where
-      by : (b c : Bool) (d : Answer (Unit {0})) (e : Bool) → not_null_holds (map as_column table.columns) values ≡ b → can_be_stored values ≡ c → checks_hold (row_of r.0 values) table.checks ≡ d
-          → is_alone table (r.0, values) (kept ++ rows) ≡ e
-          → stored db name (with_rows table (kept ++ rows)) r.0 values
-          ≡ (demanded table (r.0, values) then λ new. admitted table (kept ++ rows) new then λ new. Ok (having_rows db (kept ++ (new ∷ rows))))
-      by true true (Ok u) true h k l m =
-          (let alone = alone_is db name table r.0 values (kept ++ rows) has ∙ m in simp (h, k, l, not_left kept r rows rises, alone, m, put_back kept r rows values rises))
-      by true true (Ok u) false h k l m =
-          (let alone = alone_is db name table r.0 values (kept ++ rows) has ∙ m in simp (h, k, l, not_left kept r rows rises, alone, m))
-      by true true (Err f) e h k l m = rw (h, k, l) refl
-      by true false d e h k l m = rw (h, k) refl
-      by false c d e h k l m = rw (h) refl
+      by : (o : Option ℕ) → (elim o as (λ x. Answer ℤ) [ None ↦ Ok rowid | Some i ↦ elim (unwrap_or (slice_get vs i) Null) as (λ x. Answer ℤ) [ Int z ↦ Ok z | _ ↦ Err RowidMismatch ] ]) ≡ rowid_left o rowid vs
+      by None = refl
+      by (Some i) = refl
 
-  -- what the row becomes, where it is alone
-  abbrev turned : List TableRow → TableRow → List TableRow → Answer TableRow
-  turned kept r rows = row_set table sets r then λ new. admitted table (kept ++ rows) new
-
-  abbrev with_turned : Database → List TableRow → List TableRow → Answer TableRow → Answer Database
-  with_turned db kept rows a = a then λ new. Ok (having_rows db (kept ++ (new ∷ rows)))
-
-  row_updates : (db : Database) (kept : List TableRow) (r : TableRow) (rows : List TableRow) → has_only_plain db ≡ true → HasIndexesOf db name table → table_of db name ≡ Ok (with_rows table (kept ++ (r ∷ rows)))
-      → Rises (kept ++ (r ∷ rows)) → update_row fire no_outer name sets set db r.0 ≡ with_turned db kept rows (turned kept r rows)
-  row_updates db kept r rows only has is rises = by_given (values_over r) refl
+  row_updates : (db : Database) (now : List TableRow) (old : TableRow) → has_only_plain db ≡ true → HasIndexesOf db name table → table_of db name ≡ Ok (with_rows table now)
+      → find int_cmp old.0 now ≡ Some old.1 → update_row fire no_outer name sets set db old.0 ≡ with_turned db now old (turned now old)
+  row_updates db now old only has is found = by_given (values_over old) refl
     where
-      found : row (with_rows table (kept ++ (r ∷ rows))) r.0 ≡ Some r.1
-      found = found_behind kept r rows rises
+      there : row (with_rows table now) old.0 ≡ Some old.1
+      there = found
 
-      gone : without_row r.0 (with_rows table (kept ++ (r ∷ rows))) ≡ with_rows table (kept ++ rows)
-      gone = ap (with_rows table) (gone_behind kept r rows rises)
-
-      then_all : (a : Answer TableRow) → (a then λ new. admitted table (kept ++ rows) new then λ new. Ok (having_rows db (kept ++ (new ∷ rows)))) ≡ with_turned db kept rows (a then λ new. admitted table (kept ++ rows) new)
+      then_all : (a : Answer TableRow) → (a then λ new. admitted table (rows_beside old.0 now) new then λ new. Ok (having_rows db (put int_cmp new.0 new.1 (rows_beside old.0 now))))
+          ≡ with_turned db now old (a then λ new. admitted table (rows_beside old.0 now) new)
       then_all (Ok x) = refl
       then_all (Err f) = refl
 
-      stored_is : (vs : List Value) (d : Answer TableRow) → (demanded table (r.0, vs) then λ new. admitted table (kept ++ rows) new) ≡ d
-          → stored db name (without_row r.0 (with_rows table (kept ++ (r ∷ rows)))) r.0 vs ≡ with_turned db kept rows d
-      stored_is vs d k =
-          ap (λ (t : database.Table). stored db name t r.0 vs) gone
-          ∙ (stored_back db kept r rows vs has rises ∙ (then_all (demanded table (r.0, vs)) ∙ ap (with_turned db kept rows) k))
+      stored_so : (rowid : ℤ) (vs : List Value) (d : Answer TableRow) → (demanded table (rowid, vs) then λ new. admitted table (rows_beside old.0 now) new) ≡ d
+          → stored db name (without_row old.0 (with_rows table now)) rowid vs ≡ with_turned db now old d
+      stored_so rowid vs d k =
+          stored_as db name table (rows_beside old.0 now) rowid vs has ∙ (then_all (demanded table (rowid, vs)) ∙ ap (with_turned db now old) k)
 
-      by_demands : (given vs : List Value) → values_over r ≡ Ok given → with_affinity (map as_column table.columns) (set_values r.1 (zip (map (λ s. s.0) sets) given)) ≡ Ok vs
-          → (d : Answer TableRow) → (demanded table (r.0, vs) then λ new. admitted table (kept ++ rows) new) ≡ d
-          → update_row fire no_outer name sets set db r.0 ≡ with_turned db kept rows (turned kept r rows)
-      by_demands given vs e h (Ok new) k =
-          let back = stored_is vs (Ok new) k in
-          let later : has_only_plain (having_rows db (kept ++ (new ∷ rows))) ≡ true = keeps db name (with_rows table (kept ++ (new ∷ rows))) only in
-          rw (is, found, e, h, still, is, found, same_values r.1, back, still, k, ◌then◌) refl
-      by_demands given vs e h (Err f) k =
-          let back = stored_is vs (Err f) k in
-          rw (is, found, e, h, still, is, found, same_values r.1, back, k, ◌then◌) refl
+      by_demands : (given vs : List Value) (rowid : ℤ) → values_over old ≡ Ok given → with_affinity (map as_column table.columns) (set_values old.1 (zip (map (λ s. s.0) sets) given)) ≡ Ok vs
+          → rowid_left own old.0 vs ≡ Ok rowid → (d : Answer TableRow) → (demanded table (rowid, vs) then λ new. admitted table (rows_beside old.0 now) new) ≡ d
+          → update_row fire no_outer name sets set db old.0 ≡ with_turned db now old (turned now old)
+      by_demands given vs rowid e h l (Ok new) k =
+          let back = stored_so rowid vs (Ok new) k in
+          let left : updated_rowid (with_rows table now) old.0 vs ≡ Ok rowid = rowid_is now old.0 vs ∙ l in
+          let later : has_only_plain (having_rows db (put int_cmp new.0 new.1 (rows_beside old.0 now))) ≡ true = keeps db name (with_rows table (put int_cmp new.0 new.1 (rows_beside old.0 now))) only in
+          rw (is, there, e, h, still, is, there, same_values old.1, left, back, still, k, ◌then◌) refl
+      by_demands given vs rowid e h l (Err f) k =
+          let back = stored_so rowid vs (Err f) k in
+          let left : updated_rowid (with_rows table now) old.0 vs ≡ Ok rowid = rowid_is now old.0 vs ∙ l in
+          rw (is, there, e, h, still, is, there, same_values old.1, left, back, k, ◌then◌) refl
 
-      by_stored : (given : List Value) → values_over r ≡ Ok given → (a : Answer (List Value)) → with_affinity (map as_column table.columns) (set_values r.1 (zip (map (λ s. s.0) sets) given)) ≡ a
-          → update_row fire no_outer name sets set db r.0 ≡ with_turned db kept rows (turned kept r rows)
-      by_stored given e (Ok vs) h = by_demands given vs e h (demanded table (r.0, vs) then λ new. admitted table (kept ++ rows) new) refl
-      by_stored given e (Err f) h = rw (is, found, e, h, ◌then◌) refl
+      by_rowid : (given vs : List Value) → values_over old ≡ Ok given → with_affinity (map as_column table.columns) (set_values old.1 (zip (map (λ s. s.0) sets) given)) ≡ Ok vs
+          → (a : Answer ℤ) → rowid_left own old.0 vs ≡ a → update_row fire no_outer name sets set db old.0 ≡ with_turned db now old (turned now old)
+      by_rowid given vs e h (Ok rowid) l = by_demands given vs rowid e h l (demanded table (rowid, vs) then λ new. admitted table (rows_beside old.0 now) new) refl
+      by_rowid given vs e h (Err f) l =
+          let left : updated_rowid (with_rows table now) old.0 vs ≡ Err f = rowid_is now old.0 vs ∙ l in
+          rw (is, there, e, h, still, is, there, same_values old.1, left, ◌then◌) refl
 
-      by_given : (a : Answer (List Value)) → values_over r ≡ a
-          → update_row fire no_outer name sets set db r.0 ≡ with_turned db kept rows (turned kept r rows)
-      by_given (Ok given) e = by_stored given e (with_affinity (map as_column table.columns) (set_values r.1 (zip (map (λ s. s.0) sets) given))) refl
-      by_given (Err f) e = rw (is, found, e, ◌then◌) refl
+      by_stored : (given : List Value) → values_over old ≡ Ok given → (a : Answer (List Value)) → with_affinity (map as_column table.columns) (set_values old.1 (zip (map (λ s. s.0) sets) given)) ≡ a
+          → update_row fire no_outer name sets set db old.0 ≡ with_turned db now old (turned now old)
+      by_stored given e (Ok vs) h = by_rowid given vs e h (rowid_left own old.0 vs) refl
+      by_stored given e (Err f) h = rw (is, there, e, h, ◌then◌) refl
 
-  -- what is admitted is what SET made
-  turned_parts : (kept : List TableRow) (r : TableRow) (rows : List TableRow) (new : TableRow) → turned kept r rows ≡ Ok new → new.0 ≡ r.0
-  turned_parts kept r rows new e = by (row_set table sets r) refl e
+      by_given : (a : Answer (List Value)) → values_over old ≡ a → update_row fire no_outer name sets set db old.0 ≡ with_turned db now old (turned now old)
+      by_given (Ok given) e = by_stored given e (with_affinity (map as_column table.columns) (set_values old.1 (zip (map (λ s. s.0) sets) given))) refl
+      by_given (Err f) e = rw (is, there, e, ◌then◌) refl
+
+  -- one row, and then the others
+  one_turned : (now : List TableRow) (old : TableRow) (olds : List TableRow)
+      → rows_turned table sets now (old ∷ olds) ≡ (turned now old then λ new. rows_turned table sets (put int_cmp new.0 new.1 (rows_beside old.0 now)) olds)
+  one_turned now old olds = by (row_set table sets old)
     where
-      here : (set : TableRow) → row_set table sets r ≡ Ok set → (b : Bool) → (demand b Unique then λ _. given_row set) ≡ Ok new → new.0 ≡ r.0
-      here set is true h = (set_parts table sets r new (is ∙ h)).0
-      here set is false h = absurd cc
+      by : (a : Answer TableRow) → (a then λ new. admitted table (rows_beside old.0 now) new then λ new. rows_turned table sets (put int_cmp new.0 new.1 (rows_beside old.0 now)) olds)
+          ≡ ((a then λ new. admitted table (rows_beside old.0 now) new) then λ new. rows_turned table sets (put int_cmp new.0 new.1 (rows_beside old.0 now)) olds)
+      by (Ok x) = refl
+      by (Err f) = refl
 
-      by : (a : Answer TableRow) → row_set table sets r ≡ a → (a then λ new. admitted table (kept ++ rows) new) ≡ Ok new → new.0 ≡ r.0
-      by (Ok set) is h = here set is (is_alone table set (kept ++ rows)) h
-      by (Err f) is h = absurd cc
+  -- a row that is turned has a rowid that none of the others has
+  turned_free : (now : List TableRow) (old new : TableRow) → turned now old ≡ Ok new → find int_cmp new.0 (rows_beside old.0 now) ≡ None
+  turned_free now old new e = by (row_set table sets old) e
+    where
+      by : (a : Answer TableRow) → (a then λ set. admitted table (rows_beside old.0 now) set) ≡ Ok new → find int_cmp new.0 (rows_beside old.0 now) ≡ None
+      by (Ok set) h = (is_admitted table (rows_beside old.0 now) set new h).free
+      by (Err f) h = absurd cc
 
-  module _ (is_meant : TableRow → Bool) where
-    abbrev Folded : Database → List TableRow → List TableRow → Type 0
-    Folded db kept rows = fold_answer (update_row fire no_outer name sets set) db (map (λ row. row.0) (filter is_meant rows))
-        ≡ (rows_turned table sets (kept ++ rows) (filter is_meant rows) then λ now. Ok (having_rows db now))
+  abbrev Folded : Database → List TableRow → List TableRow → Type 0
+  Folded db now olds = fold_answer (update_row fire no_outer name sets set) db (map (λ row. row.0) olds) ≡ (rows_turned table sets now olds then λ then_now. Ok (having_rows db then_now))
 
-    -- the others are updated after any rows
-    abbrev Goes : List TableRow → Type 0
-    Goes rows = (now : List TableRow) (d : Database) → has_only_plain d ≡ true → HasIndexesOf d name table → table_of d name ≡ Ok (with_rows table (now ++ rows)) → Rises (now ++ rows) → having_rows d (now ++ rows) ≡ d
-        → Folded d now rows
+  same_database : (db : Database) (before : List TableRow) (answer : Answer (List TableRow))
+      → (answer then λ now. Ok (having_rows (having_rows db before) now)) ≡ (answer then λ now. Ok (having_rows db now))
+  same_database db before (Ok now) = ap (λ (d : Database). Ok d) (put_again (folded name) (ATable (with_rows table before)) (ATable (with_rows table now)) db)
+  same_database db before (Err f) = refl
 
-    -- in a database with other rows of the table
-    same_database : (db : Database) (before : List TableRow) (answer : Answer (List TableRow)) → ((more : List TableRow) → having_rows (having_rows db before) more ≡ having_rows db more)
-        → (answer then λ now. Ok (having_rows (having_rows db before) now)) ≡ (answer then λ now. Ok (having_rows db now))
-    same_database db before (Ok now) again = ap (λ (d : Database). Ok d) (again now)
-    same_database db before (Err f) again = refl
+  folds_some : (olds : List TableRow) (now : List TableRow) (db : Database) → has_only_plain db ≡ true → HasIndexesOf db name table → table_of db name ≡ Ok (with_rows table now)
+      → Rises olds → AreThere now olds → having_rows db now ≡ db → Folded db now olds
+  folds_some [] now db only has is rises there same = ap (λ (d : Database). Ok d) (sym same)
+  folds_some (old ∷ olds) now db only has is rises there same =
+      by_row (λ before d. folds_some olds before d) (turned now old) refl
+    where
+      Goes : Type 0
+      Goes = (before : List TableRow) (d : Database) → has_only_plain d ≡ true → HasIndexesOf d name table → table_of d name ≡ Ok (with_rows table before)
+          → Rises olds → AreThere before olds → having_rows d before ≡ d → Folded d before olds
 
-    -- a row that is meant, and then the others
-    as_turned : (kept : List TableRow) (r : TableRow) (rows : List TableRow) → Rises (kept ++ (r ∷ rows))
-        → rows_turned table sets (kept ++ (r ∷ rows)) (r ∷ filter is_meant rows) ≡ (turned kept r rows then λ new. rows_turned table sets (kept ++ (new ∷ rows)) (filter is_meant rows))
-    as_turned kept r rows rises = turned_one table sets kept r rows (filter is_meant rows) rises ∙ by (row_set table sets r)
-      where
-        by : (a : Answer TableRow) → (a then λ new. admitted table (kept ++ rows) new then λ new. rows_turned table sets (kept ++ (new ∷ rows)) (filter is_meant rows))
-            ≡ ((a then λ new. admitted table (kept ++ rows) new) then λ new. rows_turned table sets (kept ++ (new ∷ rows)) (filter is_meant rows))
-        by (Ok x) = refl
-        by (Err f) = refl
+      by_row : Goes → (a : Answer TableRow) → turned now old ≡ a → Folded db now (old ∷ olds)
+      by_row on (Ok new) e =
+          let before : List TableRow = put int_cmp new.0 new.1 (rows_beside old.0 now) in
+          let first : update_row fire no_outer name sets set db old.0 ≡ Ok (having_rows db before) = row_updates db now old only has is there.0 ∙ ap (with_turned db now old) e in
+          ap (λ (a : Answer Database). a then λ b. fold_answer (update_row fire no_outer name sets set) b (map (λ row. row.0) olds)) first
+          ∙ (on before (having_rows db before) (keeps db name (with_rows table before) only)
+          (indexes_stay db name table (with_rows table now) (with_rows table before) is has) (put_there db name (with_rows table before))
+          (raised old.0 olds rises) (others_there old new now olds rises (turned_free now old new e) there.1)
+          (put_again (folded name) (ATable (with_rows table before)) (ATable (with_rows table before)) db)
+          ∙ (same_database db before (rows_turned table sets before olds)
+          ∙ sym (ap (λ (a : Answer (List TableRow)). a then λ then_now. Ok (having_rows db then_now))
+          (one_turned now old olds ∙ ap (λ (a : Answer TableRow). a then λ new. rows_turned table sets (put int_cmp new.0 new.1 (rows_beside old.0 now)) olds) e))))
+      by_row on (Err f) e =
+          let first : update_row fire no_outer name sets set db old.0 ≡ Err f = row_updates db now old only has is there.0 ∙ ap (with_turned db now old) e in
+          ap (λ (a : Answer Database). a then λ b. fold_answer (update_row fire no_outer name sets set) b (map (λ row. row.0) olds)) first
+          ∙ sym (ap (λ (a : Answer (List TableRow)). a then λ then_now. Ok (having_rows db then_now))
+          (one_turned now old olds ∙ ap (λ (a : Answer TableRow). a then λ new. rows_turned table sets (put int_cmp new.0 new.1 (rows_beside old.0 now)) olds) e))
 
-    folds_some : (rows : List TableRow) (kept : List TableRow) (db : Database) → has_only_plain db ≡ true → HasIndexesOf db name table → table_of db name ≡ Ok (with_rows table (kept ++ rows)) → Rises (kept ++ rows)
-        → having_rows db (kept ++ rows) ≡ db → Folded db kept rows
-    folds_some [] kept db only has is rises there = ap (λ (d : Database). Ok d) (sym there)
-    folds_some (r ∷ rows) kept db only has is rises there = by_test (λ now there_now. folds_some rows now there_now) (is_meant r) refl
-      where
-        again : (before more : List TableRow) → having_rows (having_rows db before) more ≡ having_rows db more
-        again before more = put_again (folded name) (ATable (with_rows table before)) (ATable (with_rows table more)) db
-
-        by_row : Goes rows → is_meant r ≡ true → (a : Answer TableRow) → turned kept r rows ≡ a → Folded db kept (r ∷ rows)
-        by_row on it (Ok new) e =
-            let same : new.0 ≡ r.0 = turned_parts kept r rows new e in
-            let before : List TableRow = kept ++ (new ∷ rows) in
-            let shift : (kept ++ (new ∷ [])) ++ rows ≡ before = append_assoc kept (new ∷ []) rows in
-            let first : update_row fire no_outer name sets set db r.0 ≡ Ok (having_rows db before) = row_updates db kept r rows only has is rises ∙ ap (with_turned db kept rows) e in
-            rw (it)
-            (ap (λ (a : Answer Database). a then λ b. fold_answer (update_row fire no_outer name sets set) b (map (λ row. row.0) (filter is_meant rows))) first
-            ∙ (on (kept ++ (new ∷ [])) (having_rows db before) (keeps db name (with_rows table before) only)
-            (indexes_stay db name table (with_rows table (kept ++ (r ∷ rows))) (with_rows table before) is has)
-            (subst (λ (l : List TableRow). table_of (having_rows db before) name ≡ Ok (with_rows table l)) (sym shift) (put_there db name (with_rows table before)))
-            (subst Rises (sym shift) (subst (λ (n : ℤ). Rises (kept ++ ((n, new.1) ∷ rows))) (sym same) (rise_with kept r rows new.1 rises)))
-            (subst (λ (l : List TableRow). having_rows (having_rows db before) l ≡ having_rows db before) (sym shift) (again before before))
-            ∙ (same_database db before (rows_turned table sets ((kept ++ (new ∷ [])) ++ rows) (filter is_meant rows)) (again before)
-            ∙ sym (ap (λ (a : Answer (List TableRow)). a then λ now. Ok (having_rows db now))
-            (as_turned kept r rows rises ∙ (ap (λ (a : Answer TableRow). a then λ new. rows_turned table sets (kept ++ (new ∷ rows)) (filter is_meant rows)) e
-            ∙ ap (λ (l : List TableRow). rows_turned table sets l (filter is_meant rows)) (sym shift)))))))
-        by_row on it (Err f) e =
-            let first : update_row fire no_outer name sets set db r.0 ≡ Err f = row_updates db kept r rows only has is rises ∙ ap (with_turned db kept rows) e in
-            rw (it)
-            (ap (λ (a : Answer Database). a then λ b. fold_answer (update_row fire no_outer name sets set) b (map (λ row. row.0) (filter is_meant rows))) first
-            ∙ sym (ap (λ (a : Answer (List TableRow)). a then λ now. Ok (having_rows db now))
-            (as_turned kept r rows rises ∙ ap (λ (a : Answer TableRow). a then λ new. rows_turned table sets (kept ++ (new ∷ rows)) (filter is_meant rows)) e)))
-
-        by_test : Goes rows → (test : Bool) → is_meant r ≡ test → Folded db kept (r ∷ rows)
-        by_test on true it = by_row on it (turned kept r rows) refl
-        by_test on false it =
-            let shift : (kept ++ (r ∷ [])) ++ rows ≡ kept ++ (r ∷ rows) = append_assoc kept (r ∷ []) rows in
-            rw (it)
-            (on (kept ++ (r ∷ [])) db only has (subst (λ (l : List TableRow). table_of db name ≡ Ok (with_rows table l)) (sym shift) is) (subst Rises (sym shift) rises)
-            (subst (λ (l : List TableRow). having_rows db l ≡ db) (sym shift) there)
-            ∙ ap (λ (l : List TableRow). rows_turned table sets l (filter is_meant rows) then λ now. Ok (having_rows db now)) shift)
+-- some of rows that rise are there
+some_there : (p : TableRow → Bool) (kept rows : List TableRow) → Rises (kept ++ rows) → AreThere (kept ++ rows) (filter p rows)
+some_there p kept [] rises = tt
+some_there p kept (r ∷ rows) rises =
+    let shift : (kept ++ (r ∷ [])) ++ rows ≡ kept ++ (r ∷ rows) = append_assoc kept (r ∷ []) rows in
+    by (subst (λ all. AreThere all (filter p rows)) shift (some_there p (kept ++ (r ∷ [])) rows (subst Rises (sym shift) rises))) (p r)
+  where
+    by : AreThere (kept ++ (r ∷ rows)) (filter p rows) → (b : Bool) → AreThere (kept ++ (r ∷ rows)) (cond b (r ∷ filter p rows) (filter p rows))
+    by rest true = (found_behind kept r rows rises, rest)
+    by rest false = rest
 
 pub updates_some : KeepsOnlyPlain → OneDatabase → KeepsNamed → UpdatesSome
 updates_some keeps one named fire name db table rows sets set is_meant still only in_order has is fit =
-    folds_some fire name table sets set still (tables_kept keeps) is_meant rows [] db only has is (fit_rows_rise (with_rows table rows) fit) (put_itself one named db name (with_rows table rows) in_order is)
+    let rises = fit_rows_rise (with_rows table rows) fit in
+    folds_some fire name table sets set still (tables_kept keeps) (filter is_meant rows) rows db only has is (rises_filter is_meant rows rises) (some_there is_meant [] rows rises)
+    (put_itself one named db name (with_rows table rows) in_order is)
 
 -- ---- without a UNIQUE index
 
-module _ (table : Table) (sets : List (ℕ × Term)) (is_meant : TableRow → Bool) (none : has_unique table ≡ false) where
+module _ (table : Table) (sets : List (ℕ × Term)) (is_meant : TableRow → Bool) (none : has_unique table ≡ false) (bare : own_column table ≡ None) where
   free_turns : (rows : List TableRow) (kept : List TableRow) → Rises (kept ++ rows)
       → rows_turned table sets (kept ++ rows) (filter is_meant rows) ≡ (rows_meant_set table sets is_meant rows then λ now. Ok (kept ++ now))
   free_turns [] kept rises = refl
@@ -276,14 +270,15 @@ module _ (table : Table) (sets : List (ℕ × Term)) (is_meant : TableRow → Bo
           → is_meant r ≡ true → (a : Answer TableRow) → row_set table sets r ≡ a
           → rows_turned table sets (kept ++ (r ∷ rows)) (filter is_meant (r ∷ rows)) ≡ (rows_meant_set table sets is_meant (r ∷ rows) then λ now. Ok (kept ++ now))
       by_row on it (Ok new) e =
-          let same : new.0 ≡ r.0 = (set_parts table sets r new e).0 in
+          let same : new.0 ≡ r.0 = set_keeps table sets r new bare e in
+          let free : find int_cmp new.0 (kept ++ rows) ≡ None = subst (λ (n : ℤ). find int_cmp n (kept ++ rows) ≡ None) (sym same) (not_left kept r rows rises) in
           let shift : (kept ++ (new ∷ [])) ++ rows ≡ kept ++ (new ∷ rows) = append_assoc kept (new ∷ []) rows in
           let alone = free_alone table new (kept ++ rows) none in
-          rw (it, turned_one table sets kept r rows (filter is_meant rows) rises, e, alone)
+          rw (it, turned_one table sets kept r rows (filter is_meant rows) bare rises, e, free, alone)
           (ap (λ (l : List TableRow). rows_turned table sets l (filter is_meant rows)) (sym shift)
           ∙ (on (kept ++ (new ∷ [])) (subst Rises (sym shift) (subst (λ (n : ℤ). Rises (kept ++ ((n, new.1) ∷ rows))) (sym same) (rise_with kept r rows new.1 rises)))
           ∙ longer new (rows_meant_set table sets is_meant rows)))
-      by_row on it (Err f) e = rw (it, turned_one table sets kept r rows (filter is_meant rows) rises, e) refl
+      by_row on it (Err f) e = rw (it, turned_one table sets kept r rows (filter is_meant rows) bare rises, e) refl
 
       by_test : ((now : List TableRow) → Rises (now ++ rows) → rows_turned table sets (now ++ rows) (filter is_meant rows) ≡ (rows_meant_set table sets is_meant rows then λ ns. Ok (now ++ ns)))
           → (test : Bool) → is_meant r ≡ test
@@ -307,11 +302,11 @@ every_row [] = refl
 every_row (r ∷ rows) = ap (λ (rs : List TableRow). r ∷ rs) (every_row rows)
 
 pub sets_as_each : SetsAsEach
-sets_as_each table sets None rows none fit =
+sets_as_each table sets None rows none bare fit =
     ap (rows_turned table sets rows) (sym (every_row rows))
-    ∙ (free_turns table sets (λ row. true) none rows [] (fit_rows_rise (with_rows table rows) fit) ∙ same_answer (rows_meant_set table sets (λ row. true) rows))
-sets_as_each table sets (Some c) rows none fit = by (all_answers (map (tested c) rows))
+    ∙ (free_turns table sets (λ row. true) none bare rows [] (fit_rows_rise (with_rows table rows) fit) ∙ same_answer (rows_meant_set table sets (λ row. true) rows))
+sets_as_each table sets (Some c) rows none bare fit = by (all_answers (map (tested c) rows))
   where
     by : (a : Answer (List (Option Bool))) → ((a then λ tests. given_rows (filter (is_chosen c) rows)) then λ olds. rows_turned table sets rows olds) ≡ (a then λ tests. rows_meant_set table sets (is_chosen c) rows)
-    by (Ok tests) = free_turns table sets (is_chosen c) none rows [] (fit_rows_rise (with_rows table rows) fit) ∙ same_answer (rows_meant_set table sets (is_chosen c) rows)
+    by (Ok tests) = free_turns table sets (is_chosen c) none bare rows [] (fit_rows_rise (with_rows table rows) fit) ∙ same_answer (rows_meant_set table sets (is_chosen c) rows)
     by (Err r) = refl

@@ -1,18 +1,18 @@
 -- What the rows of a tree and the definition of a table's rows agree in.
-use Rattle.std.specs.Prelude.{◌≡◌, ◌≤◌, ℕ, Bool, true, false, not, filter, List, [], ◌++◌, map, length, Option, Ok, All}
+use Rattle.std.specs.Prelude.{◌≡◌, ◌≤◌, ℕ, Bool, true, false, not, filter, List, [], map, length, Option, None, Ok, All}
 use Rattle.std.specs.List.{list_any}
 use Rattle.sqlval.specs.Refusals.{◌then◌, fold_answer}
 use Rattle.sqlval.specs.declared.value.Value.{Value}
 use Rattle.sql_syntax.specs.declared.create.TriggerTime.{TriggerTime}
 use Rattle.catalog.specs.Database.{Name, Database, ATable, Index, indexes_of, with_object}
-use Rattle.catalog.specs.Listed.{as_index, has_only_plain, with_rows}
+use Rattle.catalog.specs.Listed.{as_index, has_only_plain, own_column, with_rows}
 use Rattle.catalog.specs.Named.{IsNamed}
 use Rattle.catalog.specs.declared.tables.Table.{Table}
 use Rattle.catalog.specs.Rows.{are_rows}
 use Rattle.row_scan.specs.Rows.{TableRow}
 use Rattle.row_change.specs.Binding.{row_with}
 use Rattle.row_change.specs.Constraints.{table_of}
-use Rattle.row_change.specs.Inserting.{last_rowid, rows_added, rows_inserted, values_given}
+use Rattle.row_change.specs.Inserting.{rows_inserted, values_given}
 use Rattle.row_change.specs.RowChanges.{Fire, Firing, delete_row, insert_row, update_row}
 use Rattle.row_change.specs.Changes.{no_outer}
 use Rattle.row_change.specs.Setting.{rows_set, rows_set_each, rows_turned}
@@ -30,7 +30,7 @@ IsSetFor table by_column places given = row_with table places given ≡ values_g
 abbrev pub HasIndexesOf : Database → Name → Table → Type 0
 HasIndexesOf db name table = (test : Index → Bool) → list_any (λ i. test i.1) (indexes_of db name) ≡ list_any (λ i. test (as_index table i)) table.indexes
 
--- An INSERT of rows into a listed table, where nothing is set off, leaves it with those that the rows become after its own, or
+-- An INSERT of rows into a listed table, where nothing is set off, leaves it with those that the rows become among its own, or
 -- is refused as these are.
 abbrev pub InsertsRows : Type 0
 InsertsRows = (fire : Fire) (name : Name) (places : List ℕ) (db : Database) (table : Table) (by_column : List (Option ℕ)) (rows : List TableRow) (given : List (List Value))
@@ -66,12 +66,7 @@ UpdatesSome = (fire : Fire) (name : Name) (db : Database) (table : Table) (rows 
 abbrev pub has_unique : Table → Bool
 has_unique table = list_any (λ i. i.is_unique) table.indexes
 
--- Without a UNIQUE index, rows are inserted as they become, whether or not they are alone.
-abbrev pub InsertsAsAdded : Type 0
-InsertsAsAdded = (table : Table) (places : List (Option ℕ)) (rows : List TableRow) (given : List (List Value)) → has_unique table ≡ false
-    → rows_inserted table places rows given ≡ (rows_added table places (last_rowid rows) given then λ added. Ok (rows ++ added))
-
--- Without a UNIQUE index, rows are set as they become, whether or not they are alone.
+-- Without a UNIQUE index and a column for the rowid, rows are set as they become, whether or not they are alone.
 abbrev pub SetsAsEach : Type 0
-SetsAsEach = (table : Table) (sets : List (ℕ × Term)) (condition : Option Term) (rows : List TableRow) → has_unique table ≡ false → are_rows (with_rows table rows) ≡ true
+SetsAsEach = (table : Table) (sets : List (ℕ × Term)) (condition : Option Term) (rows : List TableRow) → has_unique table ≡ false → own_column table ≡ None → are_rows (with_rows table rows) ≡ true
     → rows_set table sets condition rows ≡ rows_set_each table sets condition rows

@@ -1,11 +1,14 @@
 -- What INSERT adds to a table, as rows and as entries of its tree (SQL As Understood By SQLite, "INSERT", and SQLite Autoincrement).
-use Rattle.std.specs.Prelude.{◌+ℤ◌, ◌^◌, ◌-◌, ℕ, ℤ, pos, int_lt, List, [], ◌∷◌, ◌++◌, map, slice_index_or, Option, Some, None, Ok, Err, unwrap_or, if◌then◌else◌, All}
-use Rattle.sqlval.specs.Refusals.{Answer, ◌then◌, RowidFull}
+use Rattle.std.specs.Prelude.{◌+ℤ◌, ◌^◌, ◌-◌, ℕ, ℤ, pos, int_lt, List, [], ◌∷◌, map, slice_get, slice_index_or, slice_set, Option, Some, None, Ok, Err, unwrap_or, if◌then◌else◌, All}
+use Rattle.std.specs.FinMap.Entries.{put}
+use Rattle.std.specs.Ordering.{int_cmp}
+use Rattle.sqlval.specs.Refusals.{Answer, ◌then◌, RowidFull, RowidMismatch}
 use Rattle.sqlval.specs.declared.value.Value.{Value}
-use Rattle.sqlval.specs.declared.value.Value.TheVariants.{Null}
+use Rattle.sqlval.specs.declared.value.Value.TheVariants.{Null, Int}
 use Rattle.record.specs.Writing.{AreStorable, record_of}
 use Rattle.tree_leaf.specs.Leaf.{Entry}
-use Rattle.catalog.specs.Listed.{as_column}
+use Rattle.catalog.specs.Listed.{as_column, own_column}
+use Rattle.catalog.specs.Rows.{in_record}
 use Rattle.catalog.specs.declared.tables.Column.{Column}
 use Rattle.catalog.specs.declared.tables.Table.{Table}
 use Rattle.row_scan.specs.Rows.{TableRow}
@@ -34,36 +37,49 @@ abbrev pub rowid_after : Option ℤ → Answer ℤ
 rowid_after None = Ok (pos 1)
 rowid_after (Some last) = if int_lt last (pos (2 ^ 63 - 1)) then Ok (last +ℤ pos 1) else Err RowidFull
 
--- The row that a row given becomes after the last rowid: what the columns store, then the next rowid, and then what the table demands of it.
+-- the value at the place of the rowid's own column, NULL where there is no such column
+abbrev pub own_value : Option ℕ → List Value → Value
+own_value None values = Null
+own_value (Some place) values = unwrap_or (slice_get values place) Null
+
+-- with this value at the place of the rowid's own column, if there is one
+abbrev pub with_own_value : Option ℕ → Value → List Value → List Value
+with_own_value None value values = values
+with_own_value (Some place) value values = slice_set values place value
+
+-- The rowid of a new row after the last: the one given, or the next where none is.
+abbrev pub rowid_given : Option ℤ → Value → Answer ℤ
+rowid_given last Null = rowid_after last
+rowid_given last (Int rowid) = Ok rowid
+rowid_given last _ = Err RowidMismatch
+
+-- The row that a row given becomes after the last rowid: what the columns store, then its rowid, which its own column gives, if there is one
+-- and not NULL, and then what the table demands of it.
 abbrev pub row_added : Table → List (Option ℕ) → Option ℤ → List Value → Answer TableRow
 row_added table places last given =
-    row_stored table.columns places given then λ values. rowid_after last then λ rowid. demanded table (rowid, values)
+    row_stored table.columns places given then λ values.
+    rowid_given last (own_value (own_column table) values) then λ rowid.
+    demanded table (rowid, with_own_value (own_column table) (Int rowid) values)
 
 -- the rowid of the last row, where there is one: the greatest, since rowids rise
 abbrev pub last_rowid : List TableRow → Option ℤ
 last_rowid [] = None
 last_rowid (row ∷ rows) = Some (unwrap_or (last_rowid rows) row.0)
 
--- the rows that the rows given become, one after another and whether or not they are alone, up to the first refusal
-abbrev pub rows_added : Table → List (Option ℕ) → Option ℤ → List (List Value) → Answer (List TableRow)
-rows_added table places last [] = Ok []
-rows_added table places last (given ∷ rows) =
-    row_added table places last given then λ row. rows_added table places (Some row.0) rows then λ added. Ok (row ∷ added)
-
--- The rows of the table, with those after them that the rows given become, one after another, each alone among the rows before it; or the
+-- The rows of the table, with those among them that the rows given become, one after another, each alone among the rows before it; or the
 -- first refusal.
 abbrev pub rows_inserted : Table → List (Option ℕ) → List TableRow → List (List Value) → Answer (List TableRow)
 rows_inserted table places rows [] = Ok rows
 rows_inserted table places rows (given ∷ more) =
     row_added table places (last_rowid rows) given then λ row.
     admitted table rows row then λ row.
-    rows_inserted table places (rows ++ row ∷ []) more
+    rows_inserted table places (put int_cmp row.0 row.1 rows) more
 
 -- ---- their entries
 
--- the entry of a row, with the record that is written of its values
-abbrev pub entry_for : TableRow → Entry
-entry_for row = record { rowid = row.0; payload = record_of row.1 }
+-- the entry of a row, with the record that is written of its values, in which the rowid's own column has NULL
+abbrev pub entry_for : Option ℕ → TableRow → Entry
+entry_for own row = record { rowid = row.0; payload = record_of (in_record own row.1) }
 
 -- a record can hold each row's values
 abbrev pub AllStorable : List TableRow → Type 0

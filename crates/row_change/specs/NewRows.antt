@@ -1,10 +1,10 @@
 -- The rows that an insertion makes, and their records.
-use Rattle.std.specs.Prelude.{◌≡◌, true, [], None, Some}
+use Rattle.std.specs.Prelude.{◌≡◌, ℕ, true, [], Option, None, Some}
 use Rattle.std.specs.List.{list_all}
 use Rattle.record.specs.Record.{IsRecord}
 use Rattle.tree_leaf.specs.Leaf.{Entry}
 use Rattle.tree_table.specs.declared.changing.RowChange.{RowChange}
-use Rattle.catalog.specs.Rows.{is_value}
+use Rattle.catalog.specs.Rows.{in_record, is_value}
 use Rattle.catalog.specs.declared.tables.TableRow as stored
 use Rattle.row_scan.specs.Rows.{TableRow}
 use Rattle.row_change.specs.Inserting.{entry_for}
@@ -27,7 +27,7 @@ abbrev pub IsReplacement : RowChange → Type 0
 IsReplacement change = change.payload ≡ None → ⊥
 
 -- the entry of the row, whose payload is a record of its values, each of which can be stored
-pub record IsWritten (row : TableRow) (entry : Entry) : Type 0 where
-  pub is : entry ≡ entry_for row
-  pub values : IsRecord entry.payload row.1
+pub record IsWritten (own : Option ℕ) (row : TableRow) (entry : Entry) : Type 0 where
+  pub is : entry ≡ entry_for own row
+  pub values : IsRecord entry.payload (in_record own row.1)
   pub fit : list_all is_value row.1 ≡ true

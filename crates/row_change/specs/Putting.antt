@@ -1,31 +1,24 @@
--- How rows are put into the tree of a table, after its own.
-use Rattle.std.specs.Prelude.{ℕ, ℤ, ◌<ℤ◌, List, [], ◌∷◌, ◌++◌, ⊤, Result, MatchResult}
-use Rattle.std.specs.List.{AllByRecursion}
+-- How a row is put into the tree of a table.
+use Rattle.std.specs.Prelude.{◌≡◌, ◌⊎◌, ℕ, ℤ, List, None, ⊤, Result, MatchResult}
 use Rattle.sqlval.specs.declared.fault.Fault.{Fault}
+use Rattle.sqlval.specs.declared.fault.Fault.TheVariants.{Unique}
 use Rattle.tree_leaf.specs.Leaf.{Entry}
 use Rattle.pages.specs.Calls.{IsOutsideOrFull}
 use Rattle.pages.specs.Map.{PageMap}
 use Rattle.tree_table.specs.Calls.{BecomesRows, Stands}
+use Rattle.tree_table.specs.Rows.{payload_at, with_row, without_row}
 
--- each row's rowid is less than this
-abbrev pub AreUnder : ℤ → List Entry → Type 0
-AreUnder rowid rows = AllByRecursion (λ (row : Entry). row.rowid <ℤ rowid) rows
+-- A row is put among the rows of a tree, in its place by rowid; or memory was short, a disk's call failed, there are as many pages as there
+-- may be, or one of the rows has its rowid.
+abbrev pub PutsAmong : PageMap → PageMap → ℕ → ℕ → Entry → Result ⊤ Fault → Type 0
+PutsAmong old new size root row result = (rows : List Entry) (used free : List ℕ) → Stands old size root rows used free
+    → MatchResult result (λ done. (payload_at row.rowid rows ≡ None) × BecomesRows old new size root (with_row row rows) used free)
+    (λ fault. IsOutsideOrFull fault ⊎ ((fault ≡ Unique) × (payload_at row.rowid rows ≡ None → ⊥)))
 
--- each of the others comes after the rows and those others before it
-abbrev pub ComeAfter : List Entry → List Entry → Type 0
-ComeAfter rows [] = ⊤
-ComeAfter rows (row ∷ more) = AreUnder row.rowid rows × ComeAfter (rows ++ row ∷ []) more
-
--- A row that comes after all is put into a tree as its last; or memory was short, a disk's call failed, or there are as many pages as
--- there may be.
-abbrev pub PutsLast : PageMap → PageMap → ℕ → ℕ → Entry → Result ⊤ Fault → Type 0
-PutsLast old new size root row result =
-    (rows : List Entry) (used free : List ℕ) → Stands old size root rows used free → AreUnder row.rowid rows
-    → MatchResult result (λ done. BecomesRows old new size root (rows ++ row ∷ []) used free) IsOutsideOrFull
-
--- Rows that come one after another, and after all, are put into a tree as its last; or memory was short, a disk's call failed, or there
--- are as many pages as there may be.
-abbrev pub PutsAfter : PageMap → PageMap → ℕ → ℕ → List Entry → Result ⊤ Fault → Type 0
-PutsAfter old new size root more result =
-    (rows : List Entry) (used free : List ℕ) → Stands old size root rows used free → ComeAfter rows more
-    → MatchResult result (λ done. BecomesRows old new size root (rows ++ more) used free) IsOutsideOrFull
+-- A row of a tree goes, and another comes, in its place by rowid; or memory was short, a disk's call failed, there are as many pages as
+-- there may be, or one of the other rows has its rowid.
+abbrev pub MovesRow : PageMap → PageMap → ℕ → ℕ → ℤ → Entry → Result ⊤ Fault → Type 0
+MovesRow old new size root gone row result = (rows : List Entry) (used free : List ℕ) → Stands old size root rows used free
+    → (payload_at gone rows ≡ None → ⊥)
+    → MatchResult result (λ done. (payload_at row.rowid (without_row gone rows) ≡ None) × BecomesRows old new size root (with_row row (without_row gone rows)) used free)
+    (λ fault. IsOutsideOrFull fault ⊎ ((fault ≡ Unique) × (payload_at row.rowid (without_row gone rows) ≡ None → ⊥)))

@@ -1,12 +1,12 @@
 -- What UPDATE makes of the rows of a table (SQL As Understood By SQLite, "UPDATE").
-use Rattle.std.specs.Prelude.{ℕ, ℤ, pos, Bool, true, false, not, List, [], ◌∷◌, ◌++◌, map, zip, Option, Some, None, Ok, if◌then◌else◌, unwrap_or}
+use Rattle.std.specs.Prelude.{ℕ, ℤ, pos, Bool, true, false, not, List, [], ◌∷◌, ◌++◌, map, zip, Option, Some, None, Ok, Err, if◌then◌else◌, slice_get, unwrap_or}
 use Rattle.std.specs.FinMap.Entries.{put, where_key}
 use Rattle.std.specs.Ordering.{eq_by_cmp, int_cmp}
-use Rattle.sqlval.specs.Refusals.{Answer, ◌then◌, all_answers}
+use Rattle.sqlval.specs.Refusals.{Answer, ◌then◌, RowidMismatch, all_answers}
 use Rattle.sqlval.specs.declared.value.Value.{Value}
-use Rattle.sqlval.specs.declared.value.Value.TheVariants.{Int}
+use Rattle.sqlval.specs.declared.value.Value.TheVariants.{Null, Int}
 use Rattle.query_names.specs.Readings.{env_of, holds, values}
-use Rattle.catalog.specs.Listed.{as_column}
+use Rattle.catalog.specs.Listed.{as_column, own_column}
 use Rattle.catalog.specs.declared.tables.Column.{Column}
 use Rattle.catalog.specs.declared.tables.Table.{Table}
 use Rattle.query_terms.specs.Terms.{Term}
@@ -25,9 +25,21 @@ set_over sets seen before = values seen (map (λ s. s.1) sets) then λ given. Ok
 abbrev pub values_set : List Column → List (ℕ × Term) → Row → Answer (List Value)
 values_set columns sets row = set_over sets (env_of (row ∷ [])) row.values then λ values. with_affinity (map as_column columns) values
 
--- what the row becomes by SET, as the table demands it; it keeps its rowid
+-- the rowid of a row whose rowid was this and whose values are these now: the one in its own column, if there is such a column
+abbrev pub rowid_left : Option ℕ → ℤ → List Value → Answer ℤ
+rowid_left own rowid values = elim own [
+  | None ↦ Ok rowid
+  | Some place ↦ elim (unwrap_or (slice_get values place) Null) [ Int now ↦ Ok now | _ ↦ Err RowidMismatch ]
+]
+
+-- what a row of this rowid becomes by SET, as the table demands it
+abbrev pub row_after : Table → List (ℕ × Term) → ℤ → Row → Answer TableRow
+row_after table sets rowid row =
+    values_set table.columns sets row then λ values. rowid_left (own_column table) rowid values then λ now. demanded table (now, values)
+
+-- what a row of a table becomes by SET
 abbrev pub row_set : Table → List (ℕ × Term) → TableRow → Answer TableRow
-row_set table sets row = values_set table.columns sets (as_source row) then λ values. demanded table (row.0, values)
+row_set table sets row = row_after table sets row.0 (as_source row)
 
 -- the rows that are meant become what SET makes of them, and the others stay; or the first refusal
 abbrev pub rows_meant_set : Table → List (ℕ × Term) → (TableRow → Bool) → List TableRow → Answer (List TableRow)
@@ -77,7 +89,7 @@ rowid_number value = elim value [ Int rowid ↦ rowid | _ ↦ pos 0 ]
 
 -- what a source's row becomes by SET
 abbrev pub source_set : Table → List (ℕ × Term) → Row → Answer TableRow
-source_set table sets row = values_set table.columns sets row then λ values. demanded table (rowid_number row.rowid, values)
+source_set table sets row = row_after table sets (rowid_number row.rowid) row
 
 -- what the rows that are meant become
 abbrev pub rows_changed : Table → List (ℕ × Term) → Option Term → List Row → Answer (List TableRow)

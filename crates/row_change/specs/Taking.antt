@@ -32,7 +32,7 @@ pub record AreTakenOut (old new : PageMap) (size : ℕ) (table : BoundSource) (c
   pub answer : rows_left condition rows ≡ Ok left
   pub entries : List Entry
   pub becomes : BecomesRows old new size table.root entries used free
-  pub each : Pairwise (IsRow table.width) entries left
+  pub each : Pairwise (IsRow table.shape) entries left
 
 -- Why rows aren't taken out: memory was short, a disk's call failed, or there are as many pages as there may be; or the condition is
 -- refused for a row.
@@ -43,5 +43,5 @@ IsTakeRefusal condition rows f = IsOutsideOrFull f ⊎ (rows_left condition rows
 -- call is refused.
 abbrev pub TakesRows : PageMap → PageMap → ℕ → BoundSource → Term → List Row → Result ⊤ Fault → Type 0
 TakesRows old new size table condition given result = (rows : List TableRow) (entries : List Entry) (used free : List ℕ)
-    → Stands old size table.root entries used free → Pairwise (IsRow table.width) entries rows → AreEnough (Some condition) given rows
+    → Stands old size table.root entries used free → Pairwise (IsRow table.shape) entries rows → AreEnough (Some condition) given rows
     → MatchResult result (λ done. AreTakenOut old new size table condition rows used free) (IsTakeRefusal condition rows)

@@ -82,7 +82,7 @@ fn source_of(alloc: Global, row: &TableRow) -> R<Many<SourceRow>>
     records_hold_their_values();
     let payload = encode(alloc, &row.values)?;
     let mut rows = Vec::new(alloc);
-    rows.push(SourceRow::new(alloc, Some(row.rowid), &payload)?)?;
+    rows.push(SourceRow::new(alloc, Some(row.rowid), None, &payload)?)?;
     Ok(Many::from_vec(rows))
 }
 

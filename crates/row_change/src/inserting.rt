@@ -8,17 +8,17 @@ ghost use Rattle.sqlval.specs.Refusals as refusal;
 ghost use Rattle.record.specs.Record.{IsRecord};
 ghost use Rattle.record.specs.Writing.{AreStorable, IsBytes, record_of};
 ghost use Rattle.tree_page.specs.Cells.{Pairwise};
-ghost use Rattle.catalog.specs.Rows.{is_value};
+ghost use Rattle.catalog.specs.Rows.{holds_rowid, is_value};
 ghost use Rattle.query_terms.specs.Outcome.{AnswersBy};
 ghost use Rattle.row_change.specs.Agreement.{InsertsRows};
-ghost use Rattle.row_change.specs.Inserting.{AllStorable, given_for, row_added, row_stored, rows_added};
+ghost use Rattle.row_change.specs.Inserting.{AllStorable, given_for, own_value, row_added, row_stored, rowid_given, with_own_value};
 ghost use Rattle.row_change.specs.NewRows.{IsReplacement, IsWritten, entry_in, entry_left, row_of};
 
 use crate::demands::check_row;
 use catalog::{Column, Table, TableRow, other_rows_are_listed};
 use query_terms::conversion_is_one;
 use record::{encode, is_storable};
-use sqlval::{Fault, R, Row, Value, apply};
+use sqlval::{Fault, R, Value, apply};
 use std::alloc::Global;
 use tree_table::{RowChange, next_rowid};
 
@@ -83,8 +83,35 @@ fn stored_values(
     Ok(values)
 }
 
-/// Builds the row to insert after `last`: converts each value to its column's affinity, takes the next rowid, and looks at what the table
-/// demands. (`RealRefused`, `RowidFull`, and what `check_row` refuses, in this order.)
+/// The rowid of a new row after `last`: the one in its own column, or the next where NULL is there, or where there is no such column.
+/// (`RowidFull`; `RowidMismatch` where a text or a blob is there.)
+fn rowid_for(values: &[Value], own: Option<usize>, last: Option<i64>) -> R<i64>
+    ensures rowid { AnswersBy (λ rowid. rowid) (rowid_given last (own_value own values.now)) result }
+    ensures not_disk { IfErr result (λ fault. IsNotDiskFault fault) }
+{
+    let Some(place) = own else {
+        return next_rowid(last);
+    };
+    match values.get(place) {
+        None | Some(Value::Null) => next_rowid(last),
+        Some(Value::Int(rowid)) => Ok(*rowid),
+        Some(_) => Err(Fault::RowidMismatch),
+    }
+}
+
+/// Puts a value at the place of the rowid's own column, if there is one.
+pub(crate) fn put_own(values: &mut Vec<Value>, own: Option<usize>, value: Value)
+    ensures { values.new.items ≡ with_own_value own value values.old.items }
+{
+    if let Some(place) = own
+        && place < values.len()
+    {
+        values[place] = value;
+    }
+}
+
+/// Builds the row to insert after `last`: converts each value to its column's affinity, takes the rowid that is given or else the next, and looks
+/// at what the table demands. (`RealRefused`, what `rowid_for` refuses, and what `check_row` does, in this order.)
 pub(crate) fn new_row(
     alloc: Global,
     table: &Table,
@@ -95,40 +122,13 @@ pub(crate) fn new_row(
     ensures added { AnswersBy row_of (row_added table.now places.now last given.now) result }
     ensures not_disk { IfErr result (λ fault. IsNotDiskFault fault) }
 {
-    let values = stored_values(alloc, table.columns.as_slice(), places, given)?;
-    let rowid = next_rowid(last)?;
+    let own = table.own_column();
+    let mut values = stored_values(alloc, table.columns.as_slice(), places, given)?;
+    let rowid = rowid_for(&values, own, last)?;
+    put_own(&mut values, own, Value::Int(rowid));
     let row = TableRow { rowid, values };
     check_row(alloc, table, &row)?;
     Ok(row)
-}
-
-/// The last rowid, once this row is added.
-fn last_after(row: &TableRow) -> Option<i64>
-    ensures { result ≡ Some (row_of row.now).0 }
-{
-    Some(row.rowid)
-}
-
-/// Builds the rows to insert. (What `new_row` refuses, in order.)
-pub(crate) fn new_rows(
-    alloc: Global,
-    table: &Table,
-    places: &[Option<usize>],
-    rows: &[Row],
-    last: Option<i64>,
-) -> R<Vec<TableRow>>
-    ensures added { AnswersBy (λ added. map row_of added.items)
-        (rows_added table.now places.now last (map (λ row. row.items) rows.now)) result }
-    ensures not_disk { IfErr result (λ fault. IsNotDiskFault fault) }
-{
-    let mut added = Vec::new(alloc);
-    let mut before = last;
-    'rows: for row in rows {
-        let new = new_row(alloc, table, places, row, before)?;
-        before = last_after(&new);
-        added.push(new)?;
-    }
-    Ok(added)
 }
 
 /// The record of a new row.
@@ -161,35 +161,25 @@ fn payload_of(alloc: Global, values: &[Value]) -> R<Vec<u8>>
     Ok(payload)
 }
 
-/// The record of a new row.
-pub(crate) fn record_for(alloc: Global, row: &TableRow) -> R<RowRecord>
-    ensures written { IfOk result (λ made. IsWritten (row_of row.now) (entry_in made)) }
+/// The record of a row, with NULL at the place of the rowid's own column, where the row holds the rowid. (`Memory`; `TooLong`.)
+pub(crate) fn record_for(alloc: Global, own: Option<usize>, row: &mut TableRow) -> R<RowRecord>
+    ensures written { IfOk result (λ made. holds_rowid own (row_of row.old) ≡ true → IsWritten own (row_of row.old) (entry_in made)) }
+    ensures kept { OnOk result (holds_rowid own (row_of row.old) ≡ true → row_of row.new ≡ row_of row.old) }
     ensures refused { IfErr result (λ fault. (fault ≡ Fault.Memory)
-        ⊎ ((fault ≡ Fault.TooLong) × (AreStorable (row_of row.now).1 → ⊥))) }
+        ⊎ ((fault ≡ Fault.TooLong) × (AreStorable (row_of row.old).1 → ⊥))) }
 {
+    put_own(&mut row.values, own, Value::Null);
+    let payload = payload_of(alloc, &row.values)?;
+    put_own(&mut row.values, own, Value::Int(row.rowid));
     Ok(RowRecord {
         rowid: row.rowid,
-        payload: payload_of(alloc, &row.values)?,
+        payload,
     })
 }
 
-/// The records of the new rows.
-pub(crate) fn records_of(alloc: Global, rows: &[TableRow]) -> R<Vec<RowRecord>>
-    ensures written { IfOk result (λ records. Pairwise IsWritten (map row_of rows.now)
-        (map entry_in records.items)) }
-    ensures refused { IfErr result (λ fault. (fault ≡ Fault.Memory)
-        ⊎ ((fault ≡ Fault.TooLong) × (AllStorable (map row_of rows.now) → ⊥))) }
-{
-    let mut records = Vec::new(alloc);
-    'rows: for row in rows {
-        records.push(record_for(alloc, row)?)?;
-    }
-    Ok(records)
-}
-
-/// The change of the row of a rowid to this one, with its record.
+/// The change of the row of a rowid to this one, with its record, where no column holds the rowid.
 pub(crate) fn change_for(alloc: Global, row: &TableRow) -> R<RowChange>
-    ensures made { IfOk result (λ made. IsWritten (row_of row.now) (entry_left made)) }
+    ensures made { IfOk result (λ made. IsWritten None (row_of row.now) (entry_left made)) }
     ensures some { IfOk result IsReplacement }
     ensures refused { IfErr result (λ fault. (fault ≡ Fault.Memory)
         ⊎ ((fault ≡ Fault.TooLong) × (AreStorable (row_of row.now).1 → ⊥))) }
@@ -199,9 +189,9 @@ pub(crate) fn change_for(alloc: Global, row: &TableRow) -> R<RowChange>
     Ok(RowChange { rowid, payload })
 }
 
-/// The changes of rows to these, with their records.
+/// The changes of rows to these, with their records, where no column holds the rowid.
 pub(crate) fn changes_of(alloc: Global, rows: &[TableRow]) -> R<Vec<RowChange>>
-    ensures made { IfOk result (λ changes. Pairwise IsWritten (map row_of rows.now)
+    ensures made { IfOk result (λ changes. Pairwise (IsWritten None) (map row_of rows.now)
         (map entry_left changes.items)) }
     ensures some { IfOk result (λ changes. AllByRecursion IsReplacement changes.items) }
     ensures refused { IfErr result (λ fault. (fault ≡ Fault.Memory)
@@ -214,7 +204,7 @@ pub(crate) fn changes_of(alloc: Global, rows: &[TableRow]) -> R<Vec<RowChange>>
     Ok(changes)
 }
 
-/// An INSERT that sets off no trigger appends its rows to the table, or is refused as they are.
+/// An INSERT that sets off no trigger adds its rows to the table, or is refused as they are.
 pub fn insert_adds_its_rows()
     ensures { InsertsRows }
 {

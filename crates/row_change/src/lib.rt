@@ -12,18 +12,17 @@ mod setting;
 mod taking;
 mod updating;
 
-ghost use Rattle.row_change.specs.Agreement.{InsertsAsAdded, SetsAsEach};
+ghost use Rattle.row_change.specs.Agreement.{SetsAsEach};
 
 pub use choosing::chosen_rowids;
 pub use deleting::delete_takes_its_rows;
 pub use inserting::insert_adds_its_rows;
 pub use meaning::{meant_places, meant_rows, row_copy};
-pub use putting::{put_new_row, put_new_rows};
+pub use putting::put_new_row;
 pub use taking::take_rows;
 pub use updating::{set_new_rows, set_row, update_sets_its_rows};
 
-/// Without a UNIQUE index, rows are inserted as they become, and set as they become.
+/// Without a UNIQUE index and a column for the rowid, rows are set as they become.
 pub fn rows_without_keys_are_free()
-    ensures inserted { InsertsAsAdded }
-    ensures set { SetsAsEach }
+    ensures { SetsAsEach }
 {}

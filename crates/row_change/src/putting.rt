@@ -1,23 +1,25 @@
 //! Rows that are put into the tree of their table.
 
-ghost use Rattle.std.specs.Prelude.{◌≡◌, map, IsTrue};
+ghost use Rattle.std.specs.Prelude.{◌≡◌, IsTrue};
 ghost use Rattle.pages.specs.Calls.{Causes};
+ghost use Rattle.tree_table.specs.Rows.{with_replaced};
 ghost use Rattle.row_change.specs.NewRows.{entry_in};
-ghost use Rattle.row_change.specs.Putting.{PutsAfter, PutsLast};
-ghost use Rattle.row_change.specs.Trees.{PutsRow, PutsRows, TellsAdded};
+ghost use Rattle.row_change.specs.Putting.{MovesRow, PutsAmong};
+ghost use Rattle.row_change.specs.Trees.{PutsRow};
+ghost use Rattle.row_change.specs.Updating.{ReplacesRows};
 
-use crate::inserting::{RowRecord, new_row, new_rows, record_for, records_of};
+use crate::inserting::{RowRecord, new_row, record_for};
 use catalog::{Table, TableRow};
 use pages::WritePages;
-use query_names::BoundInsert;
-use sqlval::{Damage, Fault, R, Value};
+use sqlval::{Fault, R, Value};
 use std::alloc::Global;
-use tree_table::{insert, last};
+use std::array::from_ref;
+use tree_table::{RowChange, change_rows, insert, remove};
 
-/// Puts a record into a tree whose rowids are all less. (What `insert` refuses; `Damaged(Order, root)` if there is a row of its rowid.)
+/// Puts a record into a tree. (What `insert` refuses; `Unique` if there is a row of its rowid.)
 fn put_record<P: WritePages>(alloc: Global, pages: &mut P, root: u32, row: &RowRecord) -> R<()>
     ensures put { IsTrue (P.Pages.tells (P.Pages.below pages.old))
-        → PutsLast (P.Pages.map pages.old) (P.Pages.map pages.new)
+        → PutsAmong (P.Pages.map pages.old) (P.Pages.map pages.new)
         (P.Pages.limits (P.Pages.below pages.old)).page
         root (entry_in row.now) result }
     ensures kept { P.Pages.below pages.new ≡ P.Pages.below pages.old }
@@ -27,64 +29,54 @@ fn put_record<P: WritePages>(alloc: Global, pages: &mut P, root: u32, row: &RowR
     if insert(alloc, pages, root, row.rowid, &row.payload)? {
         return Ok(());
     }
-    Err(Fault::Damaged(Damage::Order, root))
+    Err(Fault::Unique)
 }
 
-/// Puts records into a tree, in order, after its rows. (As `put_record`.)
-fn put_records<P: WritePages>(
+/// Puts a record in place of that of its rowid in a tree. (What `change_rows` refuses.)
+pub(crate) fn replace_record<P: WritePages>(
     alloc: Global,
     pages: &mut P,
     root: u32,
-    records: &[RowRecord],
+    row: RowRecord,
 ) -> R<()>
-    ensures put { IsTrue (P.Pages.tells (P.Pages.below pages.old))
-        → PutsAfter (P.Pages.map pages.old) (P.Pages.map pages.new)
+    ensures replaced { IsTrue (P.Pages.tells (P.Pages.below pages.old))
+        → ReplacesRows (P.Pages.map pages.old) (P.Pages.map pages.new)
         (P.Pages.limits (P.Pages.below pages.old)).page
-        root (map entry_in records.now) result }
+        root (with_replaced (entry_in row)) result }
     ensures kept { P.Pages.below pages.new ≡ P.Pages.below pages.old }
     ensures causes { Causes result (P.Pages.failures pages.old) (P.Pages.failures pages.new)
         (P.Pages.count pages.new ≡ (P.Pages.limits (P.Pages.below pages.new)).most) }
 {
-    'records: for row in records {
-        put_record(alloc, pages, root, row)?;
-    }
-    Ok(())
+    let change = RowChange {
+        rowid: row.rowid,
+        payload: Some(row.payload),
+    };
+    change_rows(alloc, pages, root, from_ref(&change).as_slice())
 }
 
-/// Puts the rows of an INSERT into the tree of their table, after its own, and answers them. Nothing is put before all are known. (What
-/// `new_row` refuses, row by row; `Memory`, `Io`, `Full`.)
-pub fn put_new_rows<P: WritePages>(
+/// Takes the row of a rowid out of a tree and puts a record into it. (What `remove` and `insert` refuse; `Unique` if there is another row of the
+/// record's rowid.)
+pub(crate) fn move_record<P: WritePages>(
     alloc: Global,
     pages: &mut P,
-    insert: BoundInsert<'_>,
-) -> R<Vec<TableRow>>
-    ensures put { IsTrue (P.Pages.tells (P.Pages.below pages.old))
-        → PutsRows (P.Pages.map pages.old) (P.Pages.map pages.new)
+    root: u32,
+    gone: i64,
+    row: &RowRecord,
+) -> R<()>
+    ensures moved { IsTrue (P.Pages.tells (P.Pages.below pages.old))
+        → MovesRow (P.Pages.map pages.old) (P.Pages.map pages.new)
         (P.Pages.limits (P.Pages.below pages.old)).page
-        insert.entry.table.now.root insert.entry.table.now insert.entry.places.items
-        (map (λ row. row.items) insert.entry.rows.items) result }
-    ensures rows { IsTrue (P.Pages.tells (P.Pages.below pages.old))
-        → TellsAdded (P.Pages.map pages.old) (P.Pages.limits (P.Pages.below pages.old)).page
-        insert.entry.table.now.root insert.entry.table.now insert.entry.places.items
-        (map (λ row. row.items) insert.entry.rows.items) result }
+        root gone (entry_in row.now) result }
     ensures kept { P.Pages.below pages.new ≡ P.Pages.below pages.old }
     ensures causes { Causes result (P.Pages.failures pages.old) (P.Pages.failures pages.new)
         (P.Pages.count pages.new ≡ (P.Pages.limits (P.Pages.below pages.new)).most) }
 {
-    let BoundInsert {
-        table,
-        places,
-        rows,
-    } = insert;
-    let last = last(pages, table.root)?;
-    let added = new_rows(alloc, table, &places, &rows, last)?;
-    let records = records_of(alloc, &added)?;
-    put_records(alloc, pages, table.root, &records)?;
-    Ok(added)
+    remove(alloc, pages, root, gone)?;
+    put_record(alloc, pages, root, row)
 }
 
-/// Puts a row of an INSERT into the tree of its table, after its own, and answers it. `last` is the last rowid there. (What `new_row` refuses;
-/// `Memory`, `Io`, `Full`.)
+/// Puts a row of an INSERT into the tree of its table, and answers it. `last` is the last rowid there. (What `new_row` refuses; `Unique` if there
+/// is a row of its rowid; `Memory`, `Io`, `Full`.)
 pub fn put_new_row<P: WritePages>(
     alloc: Global,
     pages: &mut P,
@@ -101,8 +93,8 @@ pub fn put_new_row<P: WritePages>(
     ensures causes { Causes result (P.Pages.failures pages.old) (P.Pages.failures pages.new)
         (P.Pages.count pages.new ≡ (P.Pages.limits (P.Pages.below pages.new)).most) }
 {
-    let row = new_row(alloc, table, places, given, last)?;
-    let written = record_for(alloc, &row)?;
+    let mut row = new_row(alloc, table, places, given, last)?;
+    let written = record_for(alloc, table.own_column(), &mut row)?;
     put_record(alloc, pages, table.root, &written)?;
     Ok(row)
 }

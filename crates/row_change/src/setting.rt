@@ -9,7 +9,7 @@ ghost use Rattle.query_terms.specs.Outcome.{AnswersBy};
 ghost use Rattle.query_terms.specs.Rows.{picked_rows, row_at, seen};
 ghost use Rattle.row_change.specs.Constraints.{with_affinity};
 ghost use Rattle.row_change.specs.NewRows.{row_of};
-ghost use Rattle.row_change.specs.Setting.{is_meant_for, rowid_number, rows_changed, rows_meant, set_over, source_set};
+ghost use Rattle.row_change.specs.Setting.{is_meant_for, rowid_left, rowid_number, rows_changed, rows_meant, set_over, source_set};
 
 use crate::demands::check_row;
 use crate::inserting::stored_value;
@@ -141,7 +141,22 @@ fn stored(alloc: Global, columns: &[Column], values: &[Value]) -> R<Vec<Value>>
     Ok(new)
 }
 
-/// What the row at a place becomes by SET. (What SET's expressions refuse, and then what `stored` and `check_row` do.)
+/// The rowid of a row whose rowid was this and whose values are these now: the one in its own column, if there is such a column.
+/// (`RowidMismatch` where no integer is there.)
+fn rowid_now(values: &[Value], own: Option<usize>, rowid: i64) -> R<i64>
+    ensures rowid { AnswersBy (λ now. now) (rowid_left own rowid values.now) result }
+    ensures not_disk { IfErr result (λ fault. IsNotDiskFault fault) }
+{
+    let Some(place) = own else {
+        return Ok(rowid);
+    };
+    match values.get(place) {
+        Some(Value::Int(now)) => Ok(*now),
+        _ => Err(Fault::RowidMismatch),
+    }
+}
+
+/// What the row at a place becomes by SET. (What SET's expressions refuse, and then what `stored`, `rowid_now` and `check_row` do.)
 fn changed_row(
     alloc: Global,
     table: &Table,
@@ -156,7 +171,7 @@ fn changed_row(
     let env = env_at(rows, picked.as_slice());
     set_each(alloc, &mut values, sets, env)?;
     let values = stored(alloc, table.columns.as_slice(), &values)?;
-    let rowid = rowid_at(rows, place);
+    let rowid = rowid_now(&values, table.own_column(), rowid_at(rows, place))?;
     let row = TableRow { rowid, values };
     check_row(alloc, table, &row)?;
     Ok(row)

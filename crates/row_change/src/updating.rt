@@ -6,14 +6,14 @@ ghost use Rattle.query_terms.specs.Rows.{row_at};
 ghost use Rattle.row_change.specs.Agreement.{UpdatesSome};
 ghost use Rattle.row_change.specs.Updating.{SetsRow, SetsRows, TellsChanged};
 
-use crate::inserting::{change_for, changes_of};
-use crate::setting::{changed_rows, row_set_at};
+use crate::inserting::{changes_of, record_for};
+use crate::putting::{move_record, replace_record};
+use crate::setting::{changed_rows, row_set_at, rowid_at};
 use catalog::{Table, TableRow, named_databases_are_one, other_rows_are_listed};
 use pages::WritePages;
 use query_terms::{SourceRow, Term};
 use sqlval::{Many, R};
 use std::alloc::Global;
-use std::array::from_ref;
 use tree_table::change_rows;
 
 /// An UPDATE that sets off no trigger leaves the table with what SET makes of its rows, or is refused as they are.
@@ -25,8 +25,9 @@ pub fn update_sets_its_rows()
 }
 
 /// Sets values in the rows of a table's tree for which a condition is true, or in all where there is none, and answers what these rows have
-/// become. The rows given are enough of the table's for the condition. They are chosen before the first is set. (What the condition, SET's
-/// expressions, `check_row` and `change_rows` refuse, and a real; only what `change_rows` refuses leaves rows that are set.)
+/// become, where no column holds the rowid. The rows given are enough of the table's for the condition. They are chosen before the first is set.
+/// (What the condition, SET's expressions, `check_row` and `change_rows` refuse, and a real; only what `change_rows` refuses leaves rows that are
+/// set.)
 pub fn set_new_rows<P: WritePages>(
     alloc: Global,
     pages: &mut P,
@@ -51,7 +52,8 @@ pub fn set_new_rows<P: WritePages>(
 }
 
 /// Sets values in one row of a table's tree, which is the row at a place, and answers what it has become. (What SET's expressions, `check_row`
-/// and `change_rows` refuse, and a real; only what `change_rows` refuses leaves it set.)
+/// and `move_record` refuse, and a real; `RowidMismatch` where no integer is in the rowid's own column; `Unique` if another row has its rowid then;
+/// only what `move_record` refuses leaves it set.)
 pub fn set_row<P: WritePages>(
     alloc: Global,
     pages: &mut P,
@@ -68,8 +70,13 @@ pub fn set_row<P: WritePages>(
     ensures causes { Causes result (P.Pages.failures pages.old) (P.Pages.failures pages.new)
         (P.Pages.count pages.new ≡ (P.Pages.limits (P.Pages.below pages.new)).most) }
 {
-    let new = row_set_at(alloc, table, sets, rows, place)?;
-    let change = change_for(alloc, &new)?;
-    change_rows(alloc, pages, table.root, from_ref(&change).as_slice())?;
+    let mut new = row_set_at(alloc, table, sets, rows, place)?;
+    let written = record_for(alloc, table.own_column(), &mut new)?;
+    let gone = rowid_at(rows, place);
+    if written.rowid == gone {
+        replace_record(alloc, pages, table.root, written)?;
+    } else {
+        move_record(alloc, pages, table.root, gone, &written)?;
+    }
     Ok(new)
 }

@@ -1,6 +1,7 @@
 pub mod Calm
 mod FitTrees
 pub mod HeldRows
+pub mod OwnValues
 pub mod RowLemmas
 pub mod RowOrder
 pub mod Steps

@@ -1,11 +1,12 @@
--- Entries that are rows are read as these, and what is read of an entry is its row.
-use Rattle.std.proofs.Common.{◌≡◌, ◌⊎◌, inl, inr, ℕ, ◌==◌, Bool, true, false, cond, ℤ, pos, List, [], ◌∷◌, length, map, Result, Ok, Err, refl, sym, ap, subst}
+-- Entries that are rows are read as their records say these, and what is read of an entry is its row, with the rowid at its own place.
+use Rattle.std.proofs.Common.{◌≡◌, ◌⊎◌, inl, inr, ℕ, ◌==◌, Bool, true, false, cond, ℤ, pos, List, [], ◌∷◌, length, map, Result, Ok, Err, refl, sym, ap, subst, ◌∙◌}
 use Rattle.std.proofs.lemmas.Bool.{eqb-true, eq-eqb}
 use Rattle.sqlval.specs.Gives.{Refuses}
 use Rattle.sqlval.specs.declared.fault.Fault.{Fault}
 use Rattle.sqlval.specs.declared.fault.Fault.TheVariants as f
 use Rattle.sqlval.specs.declared.fault.Feature.TheVariants as feature
 use Rattle.sqlval.specs.declared.value.Value.{Value}
+use Rattle.sqlval.specs.declared.value.Value.TheVariants.{Int}
 use Rattle.record.specs.declared.field.Wrong.{Wrong}
 use Rattle.record.specs.declared.field.Wrong.TheVariants.{Float, Broken}
 use Rattle.record.specs.Reading.{answer, record_at}
@@ -13,8 +14,11 @@ use Rattle.record.specs.Record.{IsRecord}
 use Rattle.record.proofs.VarintLemmas.{AreBytes}
 use Rattle.record.proofs.RecordLemmas.{record_is, record_again}
 use Rattle.tree_leaf.specs.Leaf.{Entry}
-use Rattle.row_scan.specs.Rows.{TableRow, IsRow}
+use Rattle.catalog.specs.Rows.{in_record}
+use Rattle.catalog.specs.declared.tables.RowShape.{RowShape}
+use Rattle.row_scan.specs.Rows.{TableRow, IsRow, has_null_at}
 use Rattle.row_scan.specs.Answers.{◌and◌, every, as_wide, row_at, IsRowRefusal}
+use Rattle.row_scan.proofs.OwnValues.{as_read, as_written, read_holds, read_length, written_again, written_length}
 use Rattle.row_scan.proofs.Steps.{refused_so}
 
 pub no_row : Entry
@@ -42,16 +46,25 @@ answer_ok (Err wrong) y e = absurd cc
 
 -- ---- one row
 
-pub row_is : (width : ℕ) (entry : Entry) (row : TableRow) → AreBytes entry.payload → row_at width entry ≡ Ok row → IsRow width entry row
-row_is width entry row fits e =
-    let (values, reads, more) = and_ok (answer (record_at entry.payload)) (as_wide width entry.rowid) row e in
-    let (wide, same) = test_ok (length values == width) (entry.rowid, values) row (f.Unsupported feature.ColumnCount) more in
+pub row_is : (shape : RowShape) (entry : Entry) (row : TableRow) → AreBytes entry.payload → has_null_at shape.own row.1 ≡ true → row_at shape.width entry ≡ Ok row
+    → IsRow shape entry (as_read shape.own row)
+row_is shape entry row fits null e =
+    let (values, reads, more) = and_ok (answer (record_at entry.payload)) (as_wide shape.width entry.rowid) row e in
+    let (wide, same) = test_ok (length values == shape.width) (entry.rowid, values) row (f.Unsupported feature.ColumnCount) more in
     let is : IsRecord entry.payload values = record_is entry.payload values fits (answer_ok (record_at entry.payload) values reads) in
-    subst (IsRow width entry) same (record { rowid = refl; values = is; full = eqb-true (length values) width wide })
+    let empty : has_null_at shape.own values ≡ true = subst (λ (r : TableRow). has_null_at shape.own r.1 ≡ true) (sym same) null in
+    subst (λ (r : TableRow). IsRow shape entry (as_read shape.own r)) same (record {
+      rowid = refl;
+      values = subst (IsRecord entry.payload) (sym (written_again shape.own (Int entry.rowid) values empty)) is;
+      full = read_length shape.own (Int entry.rowid) values empty ∙ eqb-true (length values) shape.width wide;
+      own = read_holds shape.own entry.rowid values empty;
+    })
 
-pub row_again : (width : ℕ) (entry : Entry) (row : TableRow) → IsRow width entry row → row_at width entry ≡ Ok row
-row_again width entry row is =
-    rw (record_again entry.payload row.1 is.values, eq-eqb (length row.1) width is.full) (ap (λ (n : ℤ). fine (n, row.1)) is.rowid)
+pub row_again : (shape : RowShape) (entry : Entry) (row : TableRow) → IsRow shape entry row → row_at shape.width entry ≡ Ok (as_written shape.own row)
+row_again shape entry row is =
+    let full : length (in_record shape.own row.1) ≡ shape.width = written_length shape.own row.1 ∙ is.full in
+    rw (record_again entry.payload (in_record shape.own row.1) is.values, eq-eqb (length (in_record shape.own row.1)) shape.width full)
+    (ap (λ (n : ℤ). fine (n, in_record shape.own row.1)) is.rowid)
 
 -- ---- why an entry is refused
 

@@ -24,6 +24,7 @@ use Rattle.tree_leaf.specs.Leaf.{Entry}
 use Rattle.tree_page.specs.Cells.{Pairwise}
 use Rattle.tree_table.specs.SingleLeaf.{AreRising}
 use Rattle.catalog.specs.Rows.{is_value}
+use Rattle.catalog.specs.declared.tables.RowShape.{RowShape}
 use Rattle.row_scan.specs.Rows.{IsRow, TableRow}
 use Rattle.row_scan.proofs.RowLemmas.{no_row}
 
@@ -120,15 +121,15 @@ rest_rising entry entries rising (suc j) d le lt =
     before : (j : ℕ) → suc (suc j) - 1 ≡ suc (suc j - 1)
     before j = omega arith
 
-pub rowids_rise : (wide : ℕ) (entries : List Entry) (rows : List TableRow) → AreRising entries → Pairwise (IsRow wide) entries rows → is_rising int_cmp (map (λ r. r.0) rows) ≡ true
-rowids_rise wide [] [] rising each = refl
-rowids_rise wide [] (row ∷ rows) rising each = absurd each
-rowids_rise wide (entry ∷ entries) [] rising each = absurd each
-rowids_rise wide (entry ∷ []) (row ∷ []) rising each = refl
-rowids_rise wide (entry ∷ []) (row ∷ next ∷ rows) rising each = absurd each.1
-rowids_rise wide (entry ∷ other ∷ entries) (row ∷ []) rising each = absurd each.1
-rowids_rise wide (entry ∷ other ∷ entries) (row ∷ next ∷ rows) rising each =
+pub rowids_rise : (shape : RowShape) (entries : List Entry) (rows : List TableRow) → AreRising entries → Pairwise (IsRow shape) entries rows → is_rising int_cmp (map (λ r. r.0) rows) ≡ true
+rowids_rise shape [] [] rising each = refl
+rowids_rise shape [] (row ∷ rows) rising each = absurd each
+rowids_rise shape (entry ∷ entries) [] rising each = absurd each
+rowids_rise shape (entry ∷ []) (row ∷ []) rising each = refl
+rowids_rise shape (entry ∷ []) (row ∷ next ∷ rows) rising each = absurd each.1
+rowids_rise shape (entry ∷ other ∷ entries) (row ∷ []) rising each = absurd each.1
+rowids_rise shape (entry ∷ other ∷ entries) (row ∷ next ∷ rows) rising each =
     let lt : entry.rowid <ℤ other.rowid = rising 1 no_row (omega arith) (omega arith) in
     both_true (is_lt (int_cmp row.0 next.0)) (is_rising int_cmp (next.0 ∷ map (λ r. r.0) rows))
     (ap is_lt (sym (int_cmp_is row.0 next.0 Less (subst (λ n. row.0 <ℤ n) each.1.0.rowid (subst (λ n. n <ℤ other.rowid) each.0.rowid lt)))))
-    (rowids_rise wide (other ∷ entries) (next ∷ rows) (rest_rising entry (other ∷ entries) rising) each.1)
+    (rowids_rise shape (other ∷ entries) (next ∷ rows) (rest_rising entry (other ∷ entries) rising) each.1)

@@ -12,6 +12,7 @@ use Rattle.tree_page.specs.Cells.{Pairwise}
 use Rattle.tree_table.specs.Calls.{FindsRow, IsFound}
 use Rattle.tree_table.specs.Rows.{payload_at}
 use Rattle.tree_table.proofs.Orders.{greater_not, le_lt, lt_le, same_or_other}
+use Rattle.catalog.specs.declared.tables.RowShape.{RowShape}
 use Rattle.query_terms.specs.Values.{Row}
 use Rattle.query_names.specs.declared.queries.BoundSource.{BoundSource}
 use Rattle.row_scan.specs.Rows.{IsRow, TableRow}
@@ -36,37 +37,37 @@ taken_row rowid row rows h = ap (λ (t : Bool). cond t (row ∷ rows_at rowid ro
 -- ---- all entries
 
 -- no row has a rowid that is at most what all rowids are above
-none_above : (width : ℕ) (rowid low : ℤ) (entries : List Entry) (rows : List TableRow) (high : ℤ) → rowid ≤ℤ low → Goes low entries high → Pairwise (IsRow width) entries rows → rows_at rowid rows ≡ []
-none_above width rowid low [] [] high le goes each = refl
-none_above width rowid low [] (row ∷ rows) high le goes each = absurd each
-none_above width rowid low (entry ∷ entries) [] high le goes each = absurd each
-none_above width rowid low (entry ∷ entries) (row ∷ rows) high le goes each =
+none_above : (shape : RowShape) (rowid low : ℤ) (entries : List Entry) (rows : List TableRow) (high : ℤ) → rowid ≤ℤ low → Goes low entries high → Pairwise (IsRow shape) entries rows → rows_at rowid rows ≡ []
+none_above shape rowid low [] [] high le goes each = refl
+none_above shape rowid low [] (row ∷ rows) high le goes each = absurd each
+none_above shape rowid low (entry ∷ entries) [] high le goes each = absurd each
+none_above shape rowid low (entry ∷ entries) (row ∷ rows) high le goes each =
     let lt : rowid <ℤ entry.rowid = le_lt rowid low entry.rowid le goes.0 in
     passed_row rowid row rows (greater_not row.0 rowid (subst (λ (n : ℤ). rowid <ℤ n) each.0.rowid lt))
-    ∙ none_above width rowid entry.rowid entries rows high (lt_le rowid entry.rowid lt) goes.1 each.1
+    ∙ none_above shape rowid entry.rowid entries rows high (lt_le rowid entry.rowid lt) goes.1 each.1
 
 -- the row of a payload that was found
-abbrev pub as_found : ℤ → Option (List ℕ) → List Row
-as_found rowid None = []
-as_found rowid (Some payload) = as_held (record { rowid = rowid; payload = payload }) ∷ []
+abbrev pub as_found : Option ℕ → ℤ → Option (List ℕ) → List Row
+as_found own rowid None = []
+as_found own rowid (Some payload) = as_held own (record { rowid = rowid; payload = payload }) ∷ []
 
 -- at most one row has a rowid, and it is the entry's that is found
-found_is : HoldsValues → (width : ℕ) (rowid low : ℤ) (entries : List Entry) (rows : List TableRow) (high : ℤ) → Goes low entries high → Pairwise (IsRow width) entries rows
-    → as_found rowid (payload_at rowid entries) ≡ map as_source (rows_at rowid rows)
-found_is holds width rowid low [] [] high goes each = refl
-found_is holds width rowid low [] (row ∷ rows) high goes each = absurd each
-found_is holds width rowid low (entry ∷ entries) [] high goes each = absurd each
-found_is holds width rowid low (entry ∷ entries) (row ∷ rows) high goes each = elim (same_or_other entry.rowid rowid) [
+found_is : HoldsValues → (shape : RowShape) (rowid low : ℤ) (entries : List Entry) (rows : List TableRow) (high : ℤ) → Goes low entries high → Pairwise (IsRow shape) entries rows
+    → as_found shape.own rowid (payload_at rowid entries) ≡ map as_source (rows_at rowid rows)
+found_is holds shape rowid low [] [] high goes each = refl
+found_is holds shape rowid low [] (row ∷ rows) high goes each = absurd each
+found_is holds shape rowid low (entry ∷ entries) [] high goes each = absurd each
+found_is holds shape rowid low (entry ∷ entries) (row ∷ rows) high goes each = elim (same_or_other entry.rowid rowid) [
   | inl (test, same) ↦
-      ap (as_found rowid) (taken_entry rowid entry entries test)
-      ∙ (ap (λ (n : ℤ). as_held (record { rowid = n; payload = entry.payload }) ∷ []) (sym same)
-      ∙ (ap (λ (first : Row). first ∷ []) (held_is holds width entry row each.0)
+      ap (as_found shape.own rowid) (taken_entry rowid entry entries test)
+      ∙ (ap (λ (n : ℤ). as_held shape.own (record { rowid = n; payload = entry.payload }) ∷ []) (sym same)
+      ∙ (ap (λ (first : Row). first ∷ []) (held_is holds shape entry row each.0)
       ∙ ap (map as_source)
       (sym (taken_row rowid row rows (subst (λ (n : ℤ). int_eq n rowid ≡ true) each.0.rowid test)
-      ∙ ap (λ (others : List TableRow). row ∷ others) (none_above width rowid entry.rowid entries rows high (at_most rowid entry.rowid same) goes.1 each.1)))))
+      ∙ ap (λ (others : List TableRow). row ∷ others) (none_above shape rowid entry.rowid entries rows high (at_most rowid entry.rowid same) goes.1 each.1)))))
   | inr (test, other) ↦
-      ap (as_found rowid) (passed_entry rowid entry entries test)
-      ∙ (found_is holds width rowid entry.rowid entries rows high goes.1 each.1
+      ap (as_found shape.own rowid) (passed_entry rowid entry entries test)
+      ∙ (found_is holds shape rowid entry.rowid entries rows high goes.1 each.1
       ∙ ap (map as_source) (sym (passed_row rowid row rows (subst (λ (n : ℤ). int_eq n rowid ≡ false) each.0.rowid test))))
 ]
   where
@@ -76,41 +77,41 @@ found_is holds width rowid low (entry ∷ entries) (row ∷ rows) high goes each
 -- ---- a call
 
 -- what a call gives where bytes were found, or weren't
-abbrev given : ℤ → List ℕ → Bool → List Row
-given rowid bytes true = as_held (record { rowid = rowid; payload = bytes }) ∷ []
-given rowid bytes false = []
+abbrev given : Option ℕ → ℤ → List ℕ → Bool → List Row
+given own rowid bytes true = as_held own (record { rowid = rowid; payload = bytes }) ∷ []
+given own rowid bytes false = []
 
 -- what was put behind nothing is the row's payload
-given_payload : (rowid : ℤ) (payload : Option (List ℕ)) (after : List ℕ) (is : Bool) → IsFound payload [] after is → given rowid after is ≡ as_found rowid payload
-given_payload rowid None after is (none, same) = ap (given rowid after) none
-given_payload rowid (Some payload) after is (some, same) = ap (given rowid after) some ∙ ap (λ (bytes : List ℕ). as_held (record { rowid = rowid; payload = bytes }) ∷ []) same
+given_payload : (own : Option ℕ) (rowid : ℤ) (payload : Option (List ℕ)) (after : List ℕ) (is : Bool) → IsFound payload [] after is → given own rowid after is ≡ as_found own rowid payload
+given_payload own rowid None after is (none, same) = ap (given own rowid after) none
+given_payload own rowid (Some payload) after is (some, same) = ap (given own rowid after) some ∙ ap (λ (bytes : List ℕ). as_held own (record { rowid = rowid; payload = bytes }) ∷ []) same
 
 -- the row of a rowid was looked up
 sought : HoldsValues → (pages : PageMap) (size : ℕ) (table : BoundSource) (rowid : ℤ) (before after : List ℕ) (is : Bool) → before ≡ [] → FindsRow pages size table.root rowid before after (Ok is)
-    → LoadsRowsAt pages size table rowid (Ok (given rowid after is))
+    → LoadsRowsAt pages size table rowid (Ok (given table.shape.own rowid after is))
 sought holds pages size table rowid before after is none finds rows whole has =
-    given_payload rowid (payload_at rowid has.entries) after is (subst (λ (bytes : List ℕ). IsFound (payload_at rowid has.entries) bytes after is) none (finds has.entries has.used whole has.tree))
-    ∙ found_is holds table.width rowid has.tree.low has.entries rows has.tree.high (tree_goes pages size table.root has.entries has.used has.tree) has.each
+    given_payload table.shape.own rowid (payload_at rowid has.entries) after is (subst (λ (bytes : List ℕ). IsFound (payload_at rowid has.entries) bytes after is) none (finds has.entries has.used whole has.tree))
+    ∙ found_is holds table.shape rowid has.tree.low has.entries rows has.tree.high (tree_goes pages size table.root has.entries has.used has.tree) has.each
 
 -- it is there
 pub one_sought : HoldsValues → (pages : PageMap) (size : ℕ) (table : BoundSource) (rowid : ℤ) (before after bytes : List ℕ) (is : Bool) (rows found : List Row) (row : Row) → before ≡ []
-    → FindsRow pages size table.root rowid before after (Ok is) → is ≡ true → bytes ≡ after → row ≡ as_held (record { rowid = rowid; payload = bytes }) → rows ≡ [] → found ≡ rows ++ row ∷ []
+    → FindsRow pages size table.root rowid before after (Ok is) → is ≡ true → bytes ≡ after → row ≡ as_held table.shape.own (record { rowid = rowid; payload = bytes }) → rows ≡ [] → found ≡ rows ++ row ∷ []
     → LoadsRowsAt pages size table rowid (Ok found)
 one_sought holds pages size table rowid before after bytes is rows found row none finds some same row_is empty put =
     subst (λ (them : List Row). LoadsRowsAt pages size table rowid (Ok them)) (sym all) (sought holds pages size table rowid before after is none finds)
   where
-    all : found ≡ given rowid after is
+    all : found ≡ given table.shape.own rowid after is
     all =
         put
         ∙ (ap (λ (them : List Row). them ++ row ∷ []) empty
-        ∙ (ap (λ (first : Row). first ∷ []) (row_is ∙ ap (λ (b : List ℕ). as_held (record { rowid = rowid; payload = b })) same)
-        ∙ ap (given rowid after) (sym some)))
+        ∙ (ap (λ (first : Row). first ∷ []) (row_is ∙ ap (λ (b : List ℕ). as_held table.shape.own (record { rowid = rowid; payload = b })) same)
+        ∙ ap (given table.shape.own rowid after) (sym some)))
 
 -- it isn't there
 pub none_sought : HoldsValues → (pages : PageMap) (size : ℕ) (table : BoundSource) (rowid : ℤ) (before after : List ℕ) (is : Bool) (rows found : List Row) → before ≡ []
     → FindsRow pages size table.root rowid before after (Ok is) → is ≡ false → rows ≡ [] → found ≡ rows → LoadsRowsAt pages size table rowid (Ok found)
 none_sought holds pages size table rowid before after is rows found none finds not_there empty same =
-    subst (λ (them : List Row). LoadsRowsAt pages size table rowid (Ok them)) (sym (same ∙ (empty ∙ ap (given rowid after) (sym not_there))))
+    subst (λ (them : List Row). LoadsRowsAt pages size table rowid (Ok them)) (sym (same ∙ (empty ∙ ap (given table.shape.own rowid after) (sym not_there))))
     (sought holds pages size table rowid before after is none finds)
 
 -- it wasn't looked up

@@ -1,9 +1,13 @@
 -- The rows of a table.
-use Rattle.std.specs.Prelude.{◌≡◌, ℕ, ℤ, List, length}
+use Rattle.std.specs.Prelude.{◌≡◌, Bool, true, false, ℕ, ℤ, List, length, Option, Some, None, slice_get}
 use Rattle.smallvec.specs.SmallVec.{SmallVec}
+use Rattle.sqlval.specs.Sameness.{is_same_value}
 use Rattle.sqlval.specs.declared.value.Value.{Value}
+use Rattle.sqlval.specs.declared.value.Value.TheVariants.{Null}
 use Rattle.record.specs.Record.{IsRecord}
 use Rattle.tree_leaf.specs.Leaf.{Entry}
+use Rattle.catalog.specs.Rows.{holds_rowid, in_record}
+use Rattle.catalog.specs.declared.tables.RowShape.{RowShape}
 
 -- the values of a row
 abbrev pub values_of : SmallVec Value → List Value
@@ -13,8 +17,15 @@ values_of row = row.items
 abbrev pub TableRow : Type 0
 TableRow = ℤ × List Value
 
--- The entry of a page is this row: it has its rowid, and its payload is a record of its values, as many as the table has columns.
-pub record IsRow (width : ℕ) (entry : Entry) (row : TableRow) : Type 0 where
+-- The entry of a page is this row: it has its rowid, and its payload is a record of its values, as many as the table has columns. The rowid's
+-- own column, if there is one, holds the rowid, and NULL in the record.
+pub record IsRow (shape : RowShape) (entry : Entry) (row : TableRow) : Type 0 where
   pub rowid : entry.rowid ≡ row.0
-  pub values : IsRecord entry.payload row.1
-  pub full : length row.1 ≡ width
+  pub values : IsRecord entry.payload (in_record shape.own row.1)
+  pub full : length row.1 ≡ shape.width
+  pub own : holds_rowid shape.own row ≡ true
+
+-- the values of a record have NULL at the place of the rowid's own column, if there is one
+abbrev pub has_null_at : Option ℕ → List Value → Bool
+has_null_at None values = true
+has_null_at (Some place) values = elim (slice_get values place) [ None ↦ false | Some value ↦ is_same_value value Null ]

@@ -10,6 +10,8 @@ use Rattle.pages.specs.Map.{PageMap, AreWhole}
 use Rattle.tree_page.specs.Cells.{Pairwise}
 use Rattle.tree_table.specs.Rows.{rows_from}
 use Rattle.tree_table.specs.Tree.{IsTableTree}
+use Rattle.catalog.specs.declared.tables.RowShape.{RowShape}
+use Rattle.query_terms.specs.Stored.{with_own}
 use Rattle.query_terms.specs.Values.{Row}
 use Rattle.query_names.specs.declared.queries.BoundSource.{BoundSource}
 use Rattle.row_scan.specs.Rows.{IsRow, TableRow}
@@ -19,17 +21,17 @@ use Rattle.row_scan.specs.Trees.{HasRows}
 abbrev pub as_source : TableRow → Row
 as_source row = record { rowid = Int row.0; values = row.1 }
 
--- what an entry is as a source's row
-abbrev pub as_held : Entry → Row
-as_held entry = record { rowid = Int entry.rowid; values = values_in entry.payload }
+-- what an entry is as a source's row, with the rowid at the place of its own column, where there is one
+abbrev pub as_held : Option ℕ → Entry → Row
+as_held own entry = record { rowid = Int entry.rowid; values = with_own own (Int entry.rowid) (values_in entry.payload) }
 
 -- and it is never refused
-abbrev pub source_at : Entry → Result Row Fault
-source_at entry = Ok (as_held entry)
+abbrev pub source_at : Option ℕ → Entry → Result Row Fault
+source_at own entry = Ok (as_held own entry)
 
 -- of a tree of rows these are the rows; or memory was short, or a disk's call failed
 abbrev pub LoadsRows : PageMap → ℕ → BoundSource → Result (List Row) Fault → Type 0
-LoadsRows pages size table result = (rows : List TableRow) → AreWhole size pages → HasRows pages size table.root table.width rows
+LoadsRows pages size table result = (rows : List TableRow) → AreWhole size pages → HasRows pages size table.root table.shape rows
     → MatchResult result (λ found. found ≡ map as_source rows) IsOutside
 
 -- the rows of this rowid
@@ -38,15 +40,15 @@ rows_at rowid rows = filter (λ row. int_eq row.0 rowid) rows
 
 -- of a tree of rows these are those of a rowid; or memory was short, or a disk's call failed
 abbrev pub LoadsRowsAt : PageMap → ℕ → BoundSource → ℤ → Result (List Row) Fault → Type 0
-LoadsRowsAt pages size table rowid result = (rows : List TableRow) → AreWhole size pages → HasRows pages size table.root table.width rows
+LoadsRowsAt pages size table rowid result = (rows : List TableRow) → AreWhole size pages → HasRows pages size table.root table.shape rows
     → MatchResult result (λ found. found ≡ map as_source (rows_at rowid rows)) IsOutside
 
 -- Of a tree these are the next rows that come, as a source has them, and the others come later; or memory was short, or a disk's call
 -- failed.
-abbrev pub GivesRows : PageMap → ℕ → ℕ → Option ℤ → Option ℤ → Result (List Row) Fault → Type 0
-GivesRows pages size root next later result = (entries : List Entry) (used : List ℕ) → AreWhole size pages → IsTableTree pages size root entries used
-    → MatchResult result (λ found. map as_held (rows_from next entries) ≡ found ++ map as_held (rows_from later entries)) IsOutside
+abbrev pub GivesRows : PageMap → ℕ → ℕ → Option ℕ → Option ℤ → Option ℤ → Result (List Row) Fault → Type 0
+GivesRows pages size root own next later result = (entries : List Entry) (used : List ℕ) → AreWhole size pages → IsTableTree pages size root entries used
+    → MatchResult result (λ found. map (as_held own) (rows_from next entries) ≡ found ++ map (as_held own) (rows_from later entries)) IsOutside
 
 -- Entries that are rows of a table are held as these.
 abbrev pub HoldRows : Type 0
-HoldRows = (width : ℕ) (entries : List Entry) (rows : List TableRow) → Pairwise (IsRow width) entries rows → map as_held entries ≡ map as_source rows
+HoldRows = (shape : RowShape) (entries : List Entry) (rows : List TableRow) → Pairwise (IsRow shape) entries rows → map (as_held shape.own) entries ≡ map as_source rows

@@ -17,18 +17,23 @@ use std::alloc::Global;
 use tree_table::{Batch, BatchEntry, Cursor, get};
 
 /// The row of a batch as a source has it. (`Memory`.)
-fn source_row(alloc: Global, row: BatchEntry<'_>) -> R<SourceRow>
-    ensures { Gives (λ row. row) result (source_at (entry_in row.entry)) }
+fn source_row(alloc: Global, own: Option<usize>, row: BatchEntry<'_>) -> R<SourceRow>
+    ensures { Gives (λ row. row) result (source_at own (entry_in row.entry)) }
 {
-    Ok(SourceRow::new(alloc, Some(row.rowid), row.payload)?)
+    Ok(SourceRow::new(alloc, Some(row.rowid), own, row.payload)?)
 }
 
 /// Adds the rows of a batch. (`Memory`.)
-fn add_source_rows(alloc: Global, batch: &Batch, rows: &mut Many<SourceRow>) -> R<()>
-    ensures { Gives (λ done. rows.new) result (left source_at batch.now rows.old) }
+fn add_source_rows(
+    alloc: Global,
+    own: Option<usize>,
+    batch: &Batch,
+    rows: &mut Many<SourceRow>,
+) -> R<()>
+    ensures { Gives (λ done. rows.new) result (left (source_at own) batch.now rows.old) }
 {
     'rows: for index in 0..batch.len() {
-        rows.push(source_row(alloc, batch.row(index))?)?;
+        rows.push(source_row(alloc, own, batch.row(index))?)?;
     }
     Ok(())
 }
@@ -46,7 +51,7 @@ pub fn source_rows<P: Pages>(alloc: Global, pages: &mut P, table: BoundSource) -
     let mut cursor = Cursor::new(table.root);
     'batches: while cursor.next.is_some() {
         cursor.next_batch(pages, &mut batch)?;
-        add_source_rows(alloc, &batch, &mut rows)?;
+        add_source_rows(alloc, table.shape.own, &batch, &mut rows)?;
     }
     Ok(rows)
 }
@@ -67,7 +72,8 @@ pub fn source_rows_at<P: Pages>(
     let mut rows = Many::new(alloc);
     let mut payload = Vec::new(alloc);
     if get(pages, table.root, rowid, &mut payload)? {
-        rows.push(SourceRow::new(alloc, Some(rowid), payload.as_slice())?)?;
+        let own = table.shape.own;
+        rows.push(SourceRow::new(alloc, Some(rowid), own, payload.as_slice())?)?;
     }
     Ok(rows)
 }
@@ -75,50 +81,57 @@ pub fn source_rows_at<P: Pages>(
 /// Writes the row of a batch over that at a place, or puts it behind the last where there is none. (`Memory`.)
 fn put_source_row(
     alloc: Global,
+    own: Option<usize>,
     rows: &mut Vec<SourceRow>,
     place: usize,
     row: BatchEntry<'_>,
 ) -> R<()>
     ensures { IsOrMemory (λ done. take (place + 1) rows.new.items
-        ≡ take place rows.old.items ++ as_held (entry_in row.entry) ∷ []) result }
+        ≡ take place rows.old.items ++ as_held own (entry_in row.entry) ∷ []) result }
 {
     match rows.get_mut(place) {
-        Some(there) => there.refill(Some(row.rowid), row.payload)?,
-        None => rows.push(source_row(alloc, row)?)?,
+        Some(there) => there.refill(Some(row.rowid), own, row.payload)?,
+        None => rows.push(source_row(alloc, own, row)?)?,
     }
     Ok(())
 }
 
 /// The rows of a batch, written over these. (`Memory`.)
-fn batch_rows(alloc: Global, batch: &Batch, rows: Many<SourceRow>) -> R<Many<SourceRow>>
-    ensures { IsOrMemory (λ rows. rows ≡ map as_held batch.now) result }
+fn batch_rows(
+    alloc: Global,
+    own: Option<usize>,
+    batch: &Batch,
+    rows: Many<SourceRow>,
+) -> R<Many<SourceRow>>
+    ensures { IsOrMemory (λ rows. rows ≡ map (as_held own) batch.now) result }
 {
     let mut items = rows.into_vec();
     'written: for place in 0..batch.len() {
-        put_source_row(alloc, &mut items, place, batch.row(place))?;
+        put_source_row(alloc, own, &mut items, place, batch.row(place))?;
     }
     items.truncate(batch.len());
     Ok(Many::from_vec(items))
 }
 
-/// The next rows of a table's tree, written over others: at least one, unless the cursor is at the end. (What `Cursor::next_batch`
-/// refuses.)
+/// The next rows of a table's tree, written over others: at least one, unless the cursor is at the end. `own` is the place of the rowid's own
+/// column. (What `Cursor::next_batch` refuses.)
 pub fn next_source_rows<P: Pages>(
     alloc: Global,
     pages: &mut P,
     cursor: &mut Cursor,
     batch: &mut Batch,
+    own: Option<usize>,
     rows: Many<SourceRow>,
 ) -> R<Many<SourceRow>>
     ensures given { IsTrue (P.Pages.tells (P.Pages.below pages.old))
         → GivesRows (P.Pages.map pages.old) (P.Pages.limits (P.Pages.below pages.old)).page
-        cursor.old.root cursor.old.next cursor.new.next result }
+        cursor.old.root own cursor.old.next cursor.new.next result }
     ensures forward { IfOk result (λ rows. IsForward cursor.old.next cursor.new.next) }
     ensures root { cursor.new.root ≡ cursor.old.root }
     ensures stays { Stays P.Pages.below P.Pages.map P.Pages.count P.Pages.failures result pages.old pages.new }
 {
     cursor.next_batch(pages, batch)?;
-    batch_rows(alloc, batch, rows)
+    batch_rows(alloc, own, batch, rows)
 }
 
 /// Entries that are rows of a table are held as these.

@@ -43,7 +43,7 @@ module _ (pages : PageMap) (size root : ℕ) (table : BoundSource) (columns : Li
   searched rowids (Err fault) finds loads = λ rows used whole has tree le. loads rows whole has
   searched rowids (Ok found) finds loads = λ rows used whole has tree le.
       (let are = since (Ok rowids) finds (entries_of_rows (columns_in columns) rows) used whole tree (all_end (columns_in columns) rows) in
-      let rise = rowids_rise table.width has.entries rows (tree_rises pages size table.root has.entries has.used has.tree) has.each in
+      let rise = rowids_rise table.shape has.entries rows (tree_rises pages size table.root has.entries has.used has.tree) has.each in
       loads rows whole has
       ∙ ap (map as_source) (ap (flat_map (λ rowid. rows_at rowid rows)) are ∙ sought_found columns key range rows le tree.sorted rise))
 

@@ -16,7 +16,7 @@ is_from_to low high rowid = not (int_lt rowid low || int_lt high rowid)
 
 -- Of a tree of rows these are the rows of rowids from the one to the other, both among them; or memory was short, or a disk's call failed.
 abbrev pub LoadsBetween : PageMap → ℕ → BoundSource → ℤ → ℤ → Result (List Row) Fault → Type 0
-LoadsBetween pages size table low high result = (rows : List TableRow) → AreWhole size pages → HasRows pages size table.root table.width rows
+LoadsBetween pages size table low high result = (rows : List TableRow) → AreWhole size pages → HasRows pages size table.root table.shape rows
     → MatchResult result (λ found. found ≡ map as_source (filter (λ row. is_from_to low high row.0) rows)) IsOutside
 
 -- ---- steps

@@ -28,7 +28,7 @@ HasEntriesOf pages size rows index = (used : List ℕ)
 -- A table's tree has these rows, whose rowids have 64 bits, and the trees of its indexes have their entries.
 pub record HasIndexed (pages : PageMap) (size : ℕ) (table : BoundSource) (indexes : List Index) (rows : List TableRow) : Type 0 where
   pub whole : AreWhole size pages
-  pub has : HasRows pages size table.root table.width rows
+  pub has : HasRows pages size table.root table.shape rows
   pub words : AllByRecursion (λ (row : TableRow). is_word row.0 ≡ true) rows
   pub entries : AllByRecursion (HasEntriesOf pages size rows) indexes
 

@@ -13,10 +13,10 @@ use Rattle.row_scan.specs.Trees.{HasRows}
 -- of a tree of rows that of a rowid comes after others; or memory was short, or a disk's call failed
 abbrev pub AddsRowsAt : PageMap → ℕ → BoundSource → ℤ → List Row → List Row → Result ⊤ Fault → Type 0
 AddsRowsAt pages size table rowid before after result = (rows : List TableRow) → AreWhole size pages
-    → HasRows pages size table.root table.width rows
+    → HasRows pages size table.root table.shape rows
     → MatchResult result (λ done. after ≡ before ++ map as_source (rows_at rowid rows)) IsOutside
 
 -- of a tree of rows these are those of each of these rowids; or memory was short, or a disk's call failed
 abbrev pub LoadsRowsOf : PageMap → ℕ → BoundSource → List ℤ → Result (List Row) Fault → Type 0
-LoadsRowsOf pages size table rowids result = (rows : List TableRow) → AreWhole size pages → HasRows pages size table.root table.width rows
+LoadsRowsOf pages size table rowids result = (rows : List TableRow) → AreWhole size pages → HasRows pages size table.root table.shape rows
     → MatchResult result (λ found. found ≡ map as_source (flat_map (λ rowid. rows_at rowid rows) rowids)) IsOutside

@@ -22,7 +22,7 @@ use Rattle.query_plan.specs.declared.ranges.Range.{Range}
 -- has columns; or memory was short, or a disk's call failed.
 abbrev pub LoadsKeyed : PageMap → ℕ → BoundSource → ℕ → List IndexColumn → List Value → Result (List Row) Fault → Type 0
 LoadsKeyed pages size table root columns key result = (rows : List TableRow) (used : List ℕ) → AreWhole size pages
-    → HasRows pages size table.root table.width rows
+    → HasRows pages size table.root table.shape rows
     → IsIndexTree pages size root (collations (columns_in columns)) (entries_of_rows (columns_in columns) rows) used
     → length key ≤ length columns
     → MatchResult result (λ found. found ≡ map as_source (filter (λ row. has_key columns key row.1) rows)) IsOutside
@@ -30,7 +30,7 @@ LoadsKeyed pages size table root columns key result = (rows : List TableRow) (us
 -- The same of a key and a range of the values of the column after the key's, where the index has one.
 abbrev pub LoadsInRange : PageMap → ℕ → BoundSource → ℕ → List IndexColumn → List Value → Range → Result (List Row) Fault → Type 0
 LoadsInRange pages size table root columns key range result = (rows : List TableRow) (used : List ℕ) → AreWhole size pages
-    → HasRows pages size table.root table.width rows
+    → HasRows pages size table.root table.shape rows
     → IsIndexTree pages size root (collations (columns_in columns)) (entries_of_rows (columns_in columns) rows) used
     → length key < length columns
     → MatchResult result (λ found. found ≡ map as_source (filter (λ row. has_range columns key range row.1) rows)) IsOutside
@@ -38,7 +38,7 @@ LoadsInRange pages size table root columns key range result = (rows : List Table
 -- The same of rows whose entries begin with a key, and go on with a value in a range, if there is one.
 abbrev pub LoadsSought : PageMap → ℕ → BoundSource → ℕ → List IndexColumn → List Value → Option Range → Result (List Row) Fault → Type 0
 LoadsSought pages size table root columns key range result = (rows : List TableRow) (used : List ℕ) → AreWhole size pages
-    → HasRows pages size table.root table.width rows
+    → HasRows pages size table.root table.shape rows
     → IsIndexTree pages size root (collations (columns_in columns)) (entries_of_rows (columns_in columns) rows) used
     → length key ≤ length columns
     → MatchResult result

@@ -62,7 +62,9 @@ pub(crate) fn rows_between<P: Pages>(
         next: Some(low),
     };
     'leaves: while comes_upto(cursor.next, high) {
-        let found = next_source_rows(alloc, pages, &mut cursor, &mut batch, Many::new(alloc))?;
+        let own = table.shape.own;
+        let others = Many::new(alloc);
+        let found = next_source_rows(alloc, pages, &mut cursor, &mut batch, own, others)?;
         let mut items = found.into_vec();
         rows.append(&mut items)?;
     }

@@ -5,7 +5,6 @@ use mathlib.Core.Bool.{true≢false}
 use Rattle.sqlval.specs.Refusals.{Busy, Exists, StaleSnapshot, NoTransaction, NoSavepoint, InTransaction, Misuse, NoSuch, Raised, RaisedRollback, TooLong, Unique, Unsupported}
 use Rattle.sqlval.specs.declared.value.Value.{Value}
 use Rattle.sql_syntax.specs.Tree.{Binary, Raise}
-use Rattle.sql_syntax.specs.declared.create.ColumnRule.TheVariants as column
 use Rattle.sql_syntax.specs.declared.create.NewObject.TheVariants as new
 use Rattle.sql_syntax.specs.declared.create.TriggerEvent.TheVariants.{Insert, Delete}
 use Rattle.sql_syntax.specs.declared.create.TriggerStatement.TheVariants as program
@@ -158,8 +157,8 @@ inserted = inr (inr (refl, refl, inl (inr (no_faults_behind one (insert t (numbe
 pub inserted_so_far : StepSoFar (fresh one) 1 (add 1) (Rows []) (after_commit (fresh one) 1 (with_object one t (table (col a ∷ []) ((pos 1, i 1) ∷ []))))
 inserted_so_far = inl (refl, inl inserted)
 
--- CREATE TABLE x(a INTEGER PRIMARY KEY)
-pub unsupported_form : StepSoFar (fresh one) 1 (create_table x (column_with a (codes "INTEGER" ∷ []) (column.PrimaryKey ∷ []) ∷ [])) (Refused Unsupported) (fresh one)
+-- CREATE VIEW x AS SELECT 1
+pub unsupported_form : StepSoFar (fresh one) 1 (creating (new.View (record { name = x; columns = None; query = select (result (number 1) ∷ []) [] }))) (Refused Unsupported) (fresh one)
 unsupported_form = inr (refl, refl, inr (inr (refl, refl, inl refl)))
 
 -- g AFTER DELETE ON t WHEN OLD.a = 99: DELETE FROM nosuch. DELETE FROM t, where t has no row

@@ -4,16 +4,14 @@ ghost use Rattle.std.specs.Prelude.{◌≡◌};
 ghost use Rattle.db_pages.specs.Forms as object_forms;
 ghost use Rattle.executor.specs.Forms as supported_forms;
 
-use query_names::has_rowid_key;
 use sql_syntax::{NewObject, Statement};
 
-/// Whether it is a table without a column that is another name of the rowid, or an index.
+/// Whether it is a table or an index.
 fn is_object_supported(object: &NewObject) -> bool
     ensures { result ≡ object_forms.is_object_supported object.now }
 {
     match object {
-        NewObject::Table(table) => !has_rowid_key(table),
-        NewObject::Index(_) => true,
+        NewObject::Table(_) | NewObject::Index(_) => true,
         _ => false,
     }
 }

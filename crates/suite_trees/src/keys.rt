@@ -1,7 +1,7 @@
 //! Keys of UNIQUE indexes: entries and rows that come alone, rows that change, and an index over rows of a table.
 
 use crate::calls::new_pages;
-use catalog::{IndexColumn, TableRow};
+use catalog::{IndexColumn, RowShape, TableRow};
 use index_build::make_unique_index;
 use index_entries::{add_alone, replace_alone};
 use pages::MemPages;
@@ -98,7 +98,11 @@ fn is_made(alloc: Global, numbers: &[i64]) -> R<bool> {
         tree_table::insert(alloc, &mut pages, root, rowid, &payload)?;
         rowid = rowid.saturating_add(1);
     }
-    match make_unique_index(alloc, &mut pages, BoundSource { root, width: 1 }, &[FIRST]) {
+    let shape = RowShape {
+        width: 1,
+        own: None,
+    };
+    match make_unique_index(alloc, &mut pages, BoundSource { root, shape }, &[FIRST]) {
         Ok(_) => Ok(true),
         Err(Fault::Unique) => Ok(false),
         Err(fault) => Err(fault),

@@ -1,6 +1,4 @@
-use Rattle.std.proofs.Common.{map}
-use Rattle.catalog.specs.Listed.{key_columns}
-use Rattle.query_names.specs.Creating.{table_keys_known}
+use Rattle.query_names.specs.Creating.{as_keys, table_keys_known}
 use Rattle.db_load.proofs.SchemaTables.{checks_refused, keys_found}
 use Rattle.db_load.proofs.schema.keys_in.Goals as goal
 
@@ -9,4 +7,4 @@ returns-in-Ok-clause-tells c = λ keys once known. keys_found (table_keys_known 
 
 pub returns-in-Err-clause-tells : goal.returns-in-Err-clause-tells
 returns-in-Err-clause-tells c = λ keys once known.
-    c.outside.ensures.memory (checks_refused (table_keys_known c.args.definition.now c.args.columns.now) (map key_columns keys) c.in-Err.fault (c.in-Err.ensures.names once) known)
+    c.outside.ensures.memory (checks_refused (table_keys_known c.args.definition.now c.args.columns.now) (as_keys keys) c.in-Err.fault (c.in-Err.ensures.names once) known)

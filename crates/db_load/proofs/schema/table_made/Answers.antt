@@ -1,11 +1,11 @@
 use Rattle.std.proofs.lemmas.Int.{to_z-of_z}
-use Rattle.std.proofs.Common.{◌≡◌, rules, ◌∙◌, ap, sym, SFits, w64, not, refl}
+use Rattle.std.proofs.Common.{◌≡◌, rules, ◌∙◌, ap, sym, SFits, w64, refl}
 use Rattle.sql_syntax.specs.declared.create.NewObject.TheVariants as new
 use Rattle.query_names.specs.Bound.{is_twice_named}
 use Rattle.query_names.specs.Creating.{checks_known, table_keys_known}
 use Rattle.catalog.specs.declared.tables.Table.{Table}
 use Rattle.db_load.specs.Loading.{bare}
-use Rattle.db_load.proofs.SchemaTables.{checks_premise, columns_differ, columns_premise, keys_premise, passed_on, table_is, text_creates}
+use Rattle.db_load.proofs.SchemaTables.{checks_premise, columns_differ, columns_premise, keys_of, keys_premise, passed_on, table_is, text_creates}
 use Rattle.db_load.proofs.schema.table_made.Goals as goal
 
 pub returns-clause-found : goal.returns-clause-found
@@ -19,7 +19,7 @@ returns-clause-found c = λ is.
         text = is.text;
         text_is = is.text_is;
         definition = d;
-        creates = (text_creates c.args.row.now c.args.statement.now found.0 (new.Table d) is found.1 found.2, ap not names.supported_forms);
+        creates = (text_creates c.args.row.now c.args.statement.now found.0 (new.Table d) is found.1 found.2, refl);
         names = names;
         makes = record {
           free = names.free;
@@ -44,7 +44,7 @@ returns-in_err-keys-clause-tells c = λ table tells made is of.
     let twice = columns_premise table row tells d same in
     let columns = c.in_ok-columns.ensures.tells table.columns twice.0 twice.1 in
     let keys = keys_premise table row tells d c.as_slice-2.result.now same (c.as_slice-2.ensures ∙ columns) in
-    passed_on (λ (found : Table). found ≡ bare table) c.from_residual-in_err-keys.result c.in_err-keys.field-0.0 c.from_residual-in_err-keys.ensures.1 (c.in_err-keys.ensures.tells table.keys keys.0 keys.1))
+    passed_on (λ (found : Table). found ≡ bare table) c.from_residual-in_err-keys.result c.in_err-keys.field-0.0 c.from_residual-in_err-keys.ensures.1 (c.in_err-keys.ensures.tells (keys_of table row tells) keys.0 keys.1))
 
 pub returns-clause-tells : goal.returns-clause-tells
 returns-clause-tells c = λ table tells made is of.
@@ -55,6 +55,6 @@ returns-clause-tells c = λ table tells made is of.
     let twice = columns_premise table row tells d same in
     let columns = c.in_ok-columns.ensures.tells table.columns twice.0 twice.1 in
     let keys = keys_premise table row tells d c.as_slice-2.result.now same (c.as_slice-2.ensures ∙ columns) in
-    table_is table row tells d _ same c.in_ok-name.ensures columns
+    table_is table row tells d _ c.in_ok-keys.keys same c.in_ok-name.ensures columns
     (c.in_ok-checks.ensures.tells table.checks (checks_premise table row tells d c.as_slice.result.now same (c.as_slice.ensures ∙ columns)))
-    (c.in_ok-keys.ensures.tells table.keys keys.0 keys.1) c.new.ensures refl (to_z-of_z w64 row.rowid fits))
+    (c.in_ok-keys.ensures.tells (keys_of table row tells) keys.0 keys.1) refl refl c.new.ensures refl (to_z-of_z w64 row.rowid fits))

@@ -28,7 +28,7 @@ returns-clause-checked g c = λ pages size told can rows has.
     let same : columns ≡ orders_of i = c.deref.ensures.value ∙ (c.in_ok-collations.ensures.found ∙ ap (λ (cs : List IndexColumn). map (λ (column : IndexColumn). column.collation) cs) c.as_slice-columns.ensures) in
     let stays = c.in_ok-check_index_tree.ensures.stays in
     let now = told_after p.below p.tells p.limits p.map c.args.pages.now c.check_index_tree.new.pages pages size stays.kept stays.same told in
-    entries_checked pages size _ _ c.source_of.result rows i columns old new c.check_entries.result can.whole same c.source_of.ensures.root c.source_of.ensures.width
+    entries_checked pages size _ _ c.source_of.result rows i columns old new c.check_entries.result can.whole same c.source_of.ensures.root c.source_of.ensures.shape
     (told_as p.below p.tells p.limits p.map c.args.pages.now pages size (λ m n. CanMark m n old → IsCheckedIndex m n i.root columns old new) told c.in_ok-check_index_tree.ensures.found can)
     (told_as p.below p.tells p.limits p.map c.args.pages.now pages size (λ m n. CanMark m n old → MarksIndex m n i.root columns old new) told c.in_ok-check_index_tree.ensures.same can)
     (subst (λ (cs : List IndexColumn). ChecksEntries pages size i.root c.source_of.result cs c.check_entries.result) c.as_slice-columns.ensures

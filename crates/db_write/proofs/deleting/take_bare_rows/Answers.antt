@@ -26,7 +26,7 @@ returns-clause-deleted g c = λ told.
     let rows = c.in_ok-rows.rows in
     let result = c.take_rows.result in
     let stays = c.in_ok-rows.ensures.stays in
-    let same = same_source table c.source_of.result c.source_of.ensures.root c.source_of.ensures.width in
+    let same = same_source table c.source_of.result c.source_of.ensures.root c.source_of.ensures.shape in
     let takes = after_reading pages.below pages.tells pages.limits pages.map c.args.pages.now c.enough_rows.new.pages (λ (m : PageMap) (n : ℕ). TakesRows m new n c.source_of.result term rows result)
     stays.kept stays.same c.take_rows.ensures.taken told in
     bare_taken old new size table term rows (subst (λ (condition : Option Term). LoadsEnough old size table condition (Ok rows)) c.requires.is (c.in_ok-rows.ensures.loaded told))

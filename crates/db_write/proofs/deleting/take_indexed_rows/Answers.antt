@@ -43,7 +43,7 @@ returns-in_err-take_rows-clause-deleted g c = λ told.
     let rows = c.in_ok-rows.rows in
     let fault = c.in_err-take_rows.field-0.0 in
     let stays = c.in_ok-rows.ensures.stays in
-    let same = same_source table c.source_of.result c.source_of.ensures.root c.source_of.ensures.width in
+    let same = same_source table c.source_of.result c.source_of.ensures.root c.source_of.ensures.shape in
     let takes = after_reading pages.below pages.tells pages.limits pages.map c.args.pages.now c.enough_rows.new.pages (λ (m : PageMap) (n : ℕ). TakesRows m new n c.source_of.result term rows (Err fault))
     stays.kept stays.same c.in_err-take_rows.ensures.taken told in
     none_taken old new size table term rows (subst (λ (condition : Option Term). LoadsEnough old size table condition (Ok rows)) c.requires.is (c.in_ok-rows.ensures.loaded told))
@@ -63,7 +63,7 @@ returns-clause-deleted g c = λ told.
     let gone = c.in_ok-gone.gone in
     let result = c.take_from_indexes.result in
     let stays = c.in_ok-rows.ensures.stays in
-    let same = same_source table c.source_of.result c.source_of.ensures.root c.source_of.ensures.width in
+    let same = same_source table c.source_of.result c.source_of.ensures.root c.source_of.ensures.shape in
     let takes = after_reading pages.below pages.tells pages.limits pages.map c.args.pages.now c.enough_rows.new.pages (λ (m : PageMap) (n : ℕ). TakesRows m (pages.map mid) n c.source_of.result term rows (Ok tt))
     stays.kept stays.same c.in_ok-take_rows.ensures.taken told in
     let more = since pages.below pages.tells pages.limits c.args.pages.now mid (λ (n : ℕ). TakesFromIndexes (pages.map mid) new n c.as_slice.result.now (map row_in c.deref.result.now) result)

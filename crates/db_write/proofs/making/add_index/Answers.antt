@@ -12,7 +12,7 @@ returns-then-is_unique-clause-added g c = λ told.
     let new = pages.map c.make_unique_index.new.pages in
     let size = (pages.limits (pages.below c.args.pages.now)).page in
     let result = c.make_unique_index.result in
-    let same = same_source c.args.table.now c.source_of-source.result c.source_of-source.ensures.root c.source_of-source.ensures.width in
+    let same = same_source c.args.table.now c.source_of-source.result c.source_of-source.ensures.root c.source_of-source.ensures.shape in
     unique_added old new size c.args.table.now c.args.columns.now result c.args.is_unique c.if-is_unique.true
     (subst (λ (source : BoundSource). MakesUniqueIndex old new size source c.args.columns.now result) same (c.make_unique_index.ensures.made told)))
 
@@ -23,6 +23,6 @@ returns-else-is_unique-clause-added g c = λ told.
     let new = pages.map c.make_index.new.pages in
     let size = (pages.limits (pages.below c.args.pages.now)).page in
     let result = c.make_index.result in
-    let same = same_source c.args.table.now c.source_of-source.result c.source_of-source.ensures.root c.source_of-source.ensures.width in
+    let same = same_source c.args.table.now c.source_of-source.result c.source_of-source.ensures.root c.source_of-source.ensures.shape in
     index_added old new size c.args.table.now c.args.columns.now result c.args.is_unique c.if-is_unique.false
     (subst (λ (source : BoundSource). MakesIndex old new size source c.args.columns.now result) same (c.make_index.ensures.made told)))

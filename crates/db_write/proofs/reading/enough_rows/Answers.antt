@@ -13,6 +13,6 @@ returns-clause-loaded g c = λ told.
     let table = c.args.table.now in
     let condition = c.args.condition.now in
     let result = c.needed_rows.result in
-    let same = same_source table c.source_of-source.result c.source_of-source.ensures.root c.source_of-source.ensures.width in
+    let same = same_source table c.source_of-source.result c.source_of-source.ensures.root c.source_of-source.ensures.shape in
     let finds = subst (λ (them : List Index). FindsNeeded old size c.source_of-source.result them condition result) c.as_slice.ensures (c.needed_rows.ensures.loaded told) in
     loads_enough old size table c.other_rows_fail.ensures condition result (subst (λ (source : BoundSource). FindsNeeded old size source table.indexes condition result) same finds))

@@ -10,7 +10,7 @@ use Rattle.executor.proofs.Creations.{Laws, are_free, creates, handed_on, lists_
 use Rattle.executor.proofs.creating.create_table.Goals as goal
 
 pub returns-in_err-table-clause-made : goal.returns-in_err-table-clause-made
-returns-in_err-table-clause-made g c told plain text db held =
+returns-in_err-table-clause-made g c told text db held =
     let laws : Laws = record {
       lists = c.new_tables_are_listed.ensures;
       tables = c.other_rows_are_listed.ensures.plain;
@@ -22,7 +22,7 @@ returns-in_err-table-clause-made g c told plain text db held =
     (refused_definition laws _ _ (tables_of c.args.catalog.now) db held c.args.sql.now c.args.definition.now c.in_err-table.field-0.0 c.in_err-table.ensures.why)
 
 pub returns-in_err-table-2-clause-made : goal.returns-in_err-table-2-clause-made
-returns-in_err-table-2-clause-made g c told plain text db held =
+returns-in_err-table-2-clause-made g c told text db held =
     let laws : Laws = record {
       lists = c.new_tables_are_listed.ensures;
       tables = c.other_rows_are_listed.ensures.plain;
@@ -35,7 +35,7 @@ returns-in_err-table-2-clause-made g c told plain text db held =
     (inl (c.in_err-table-2.ensures.made told held.free (are_free laws _ _ tables db held c.args.sql.now c.args.definition.now) (size_is laws _ _ tables db held c.args.sql.now c.args.definition.now)))
 
 pub returns-in_err-add_row-clause-made : goal.returns-in_err-add_row-clause-made
-returns-in_err-add_row-clause-made g c told plain text db held =
+returns-in_err-add_row-clause-made g c told text db held =
     let laws : Laws = record {
       lists = c.new_tables_are_listed.ensures;
       tables = c.other_rows_are_listed.ensures.plain;
@@ -67,10 +67,10 @@ returns-in_err-add_row-clause-made g c told plain text db held =
     (subst (λ k. AddsRow mid new (pages.limits k).page rowid c.deref.result.now (Err f)) c.new_tree.ensures.kept
     (subst (λ z. AddsRow mid new (pages.limits (pages.below c.new_tree.new.pages)).page z c.deref.result.now (Err f)) (to_z-of_z w64 rowid fits) (c.in_err-add_row.ensures.added told_then))) in
     handed_on _ _ c.from_residual-in_err-add_row.result f c.from_residual-in_err-add_row.ensures.1
-    (refused_row laws old size tables db held sql d t is mid root refl tree plain f (adds held.schema held.schema_used tree.now_free (schema_then laws old size tables db held sql d t is mid root refl tree) none))
+    (refused_row laws old size tables db held sql d t is mid root refl tree f (adds held.schema held.schema_used tree.now_free (schema_then laws old size tables db held sql d t is mid root refl tree) none))
 
 pub returns-clause-made : goal.returns-clause-made
-returns-clause-made g c told plain text db held =
+returns-clause-made g c told text db held =
     let laws : Laws = record {
       lists = c.new_tables_are_listed.ensures;
       tables = c.other_rows_are_listed.ensures.plain;
@@ -107,5 +107,5 @@ returns-clause-made g c told plain text db held =
     let kept = c.add_row.ensures.kept ∙ c.new_tree.ensures.kept in
     let lists = subst (λ k. ListsKeys new last (pages.limits k).page listed d.name c.list_keys.result) kept (c.list_keys.ensures.listed (subst (λ k. IsTrue (pages.tells k)) (sym kept) told)) in
     turned_result c.list_keys.result
-    (lists_keys laws old size tables db held sql d t is mid root refl tree plain text new c.in_ok-rowid.ensures.free added tables_of last listed there c.list_keys.result lists)
-    (λ catalog. creates old size tables db held sql d plain t is last (tables_of catalog)) (refused_keys old size tables db held sql d plain t is last)
+    (lists_keys laws old size tables db held sql d t is mid root refl tree text new c.in_ok-rowid.ensures.free added tables_of last listed there c.list_keys.result lists)
+    (λ catalog. creates old size tables db held sql d t is last (tables_of catalog)) (refused_keys old size tables db held sql d t is last)

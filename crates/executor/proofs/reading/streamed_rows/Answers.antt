@@ -9,7 +9,7 @@ use Rattle.executor.proofs.reading.streamed_rows.Goals as goal
 pub leaves-init : goal.leaves-init
 leaves-init g c =
     let gs = g.P.Pages in
-    none_streamed gs.below gs.tells gs.limits gs.map gs.count gs.failures c.args.pages.now c.args.reading.now c.args.table.root c.new-cursor.result.root c.new-cursor.result.next c.new-found.result
+    none_streamed gs.below gs.tells gs.limits gs.map gs.count gs.failures c.args.pages.now c.args.reading.now c.args.table c.new-cursor.result.root c.new-cursor.result.next c.new-found.result
     c.rows_are_given_in_parts.ensures.none c.requires c.new-found.ensures c.new-cursor.ensures.root c.new-cursor.ensures.first
 
 pub returns-in_err-rows-clause-answered : goal.returns-in_err-rows-clause-answered

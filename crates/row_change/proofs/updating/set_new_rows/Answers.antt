@@ -1,4 +1,4 @@
-use Rattle.std.proofs.Common.{map, subst, Ok, Err}
+use Rattle.std.proofs.Common.{None, map, subst, Ok, Err}
 use Rattle.tree_page.specs.Cells.{Pairwise}
 use Rattle.tree_table.specs.Calls.{ChangesRows}
 use Rattle.row_change.specs.NewRows.{IsWritten, entry_left, row_of}
@@ -32,7 +32,7 @@ returns-in_err-change_rows-clause-set g c = λ told.
     let size = (pages.limits (pages.below c.args.pages.now)).page in
     let changes = c.in_ok-changes.changes.items in
     let fault = c.in_err-change_rows.field-0.0 in
-    let written : Pairwise IsWritten (map row_of c.in_ok-new.new.items) (map entry_left changes) = rw (c.deref.ensures.value) at c.in_ok-changes.ensures.made in
+    let written : Pairwise (IsWritten None) (map row_of c.in_ok-new.new.items) (map entry_left changes) = rw (c.deref.ensures.value) at c.in_ok-changes.ensures.made in
     let changed = subst (λ them. ChangesRows old new size table.root them (Err fault)) c.deref-2.ensures.value (c.in_err-change_rows.ensures.changed told) in
     passed_on table c.args.sets.now c.args.condition.now old new size table.root c.args.rows.now fault c.from_residual-in_err-change_rows.result c.from_residual-in_err-change_rows.ensures.1
     (rows_replaced table c.args.sets.now c.args.condition.now old new size table.root c.args.rows.now
@@ -47,7 +47,7 @@ returns-clause-set g c = λ told.
     let new = pages.map c.change_rows.new.pages in
     let size = (pages.limits (pages.below c.args.pages.now)).page in
     let changes = c.in_ok-changes.changes.items in
-    let written : Pairwise IsWritten (map row_of c.in_ok-new.new.items) (map entry_left changes) = rw (c.deref.ensures.value) at c.in_ok-changes.ensures.made in
+    let written : Pairwise (IsWritten None) (map row_of c.in_ok-new.new.items) (map entry_left changes) = rw (c.deref.ensures.value) at c.in_ok-changes.ensures.made in
     let changed = subst (λ them. ChangesRows old new size table.root them (Ok tt)) c.deref-2.ensures.value (c.in_ok-change_rows.ensures.changed told) in
     rows_replaced table c.args.sets.now c.args.condition.now old new size table.root c.args.rows.now
     (map row_of c.in_ok-new.new.items) c.in_ok-new.ensures.changed

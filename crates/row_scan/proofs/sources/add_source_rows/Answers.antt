@@ -8,7 +8,7 @@ use Rattle.row_scan.proofs.sources.add_source_rows.Goals as goal
 
 pub returns-in_err-source_row : goal.returns-in_err-source_row
 returns-in_err-source_row c =
-    let gives = source_at in
+    let gives = source_at c.args.own in
     let fault = c.in_err-source_row.field-0.0 in
     let total = left gives c.args.batch.now c.args.rows.now in
     let h : Refuses fault total =
@@ -18,7 +18,7 @@ returns-in_err-source_row c =
 
 pub rows-preserved : goal.rows-preserved
 rows-preserved c =
-    let gives = source_at in
+    let gives = source_at c.args.own in
     rw (c.in_ok-push.ensures)
     (goes_on gives c.args.batch.now c.rows.index no_row c.rows.rows c.in_ok-source_row.field-0 (left gives c.args.batch.now c.args.rows.now)
     (omega (arith, c.rows-test.true, c.len-index-end.ensures))

@@ -5,4 +5,4 @@ use Rattle.row_scan.specs.Sources.{source_at}
 use Rattle.row_scan.proofs.sources.add_source_rows.Given as goal
 
 abbrev pub invariant-rows : goal.invariant-rows
-invariant-rows l = left source_at (drop l.index l.batch) l.rows ≡ left source_at l.batch l.initial.rows
+invariant-rows l = left (source_at l.own) (drop l.index l.batch) l.rows ≡ left (source_at l.own) l.batch l.initial.rows

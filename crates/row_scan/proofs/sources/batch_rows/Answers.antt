@@ -5,5 +5,5 @@ use Rattle.row_scan.proofs.sources.batch_rows.Goals as goal
 
 pub written-preserved : goal.written-preserved
 written-preserved c =
-    holds_more c.args.batch.now c.written.place _ c.written.items.items c.put_source_row.new.rows.items (omega (arith, c.written-test.true, c.len-place-end.ensures))
+    holds_more c.args.own c.args.batch.now c.written.place _ c.written.items.items c.put_source_row.new.rows.items (omega (arith, c.written-test.true, c.len-place-end.ensures))
     (c.row.ensures no_row) c.written.invariant c.in_ok-put_source_row.ensures

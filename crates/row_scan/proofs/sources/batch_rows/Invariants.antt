@@ -4,4 +4,4 @@ use Rattle.row_scan.specs.Sources.{as_held}
 use Rattle.row_scan.proofs.sources.batch_rows.Given as goal
 
 abbrev pub invariant-written : goal.invariant-written
-invariant-written l = take l.place l.items.items ≡ map as_held (take l.place l.batch)
+invariant-written l = take l.place l.items.items ≡ map (as_held l.own) (take l.place l.batch)

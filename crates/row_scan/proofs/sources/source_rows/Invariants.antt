@@ -5,7 +5,7 @@ use Rattle.row_scan.proofs.sources.source_rows.Given as goal
 
 abbrev pub invariant-batches : goal.invariant-batches
 invariant-batches g l =
-    HasRead g.P.Pages.below g.P.Pages.tells g.P.Pages.limits g.P.Pages.map g.P.Pages.count g.P.Pages.failures source_at l.fn.pages l.pages l.fn.table.root l.cursor.root l.cursor.next l.rows
+    HasRead g.P.Pages.below g.P.Pages.tells g.P.Pages.limits g.P.Pages.map g.P.Pages.count g.P.Pages.failures (source_at l.fn.table.shape.own) l.fn.pages l.pages l.fn.table.root l.cursor.root l.cursor.next l.rows
 
 abbrev pub decreases-batches : goal.decreases-batches
 decreases-batches g l = places_from l.cursor.next

@@ -26,7 +26,7 @@ returns-clause-loaded g c = λ told.
     elim c.if-branch.branch [
       | then-branch+in_ok-new+in_ok-push w ↦
           one_sought c.records_hold_their_values.ensures pages size c.args.table c.args.rowid before after w.as_slice.result.now c.in_ok-get.field-0 c.new-rows.result c.if-branch.rows
-          w.in_ok-new.field-0 c.new-payload.ensures.items finds w.if-branch.true w.as_slice.ensures.value (w.in_ok-new.ensures ∙ ap (λ (n : ℤ). as_held (record { rowid = n; payload = w.as_slice.result.now })) same) c.new-rows.ensures (w.rows-is ∙ w.in_ok-push.ensures)
+          w.in_ok-new.field-0 c.new-payload.ensures.items finds w.if-branch.true w.as_slice.ensures.value (w.in_ok-new.ensures ∙ ap (λ (n : ℤ). as_held c.args.table.shape.own (record { rowid = n; payload = w.as_slice.result.now })) same) c.new-rows.ensures (w.rows-is ∙ w.in_ok-push.ensures)
       | else-branch w ↦
           none_sought c.records_hold_their_values.ensures pages size c.args.table c.args.rowid before after c.in_ok-get.field-0 c.new-rows.result c.if-branch.rows
           c.new-payload.ensures.items finds w.if-branch.false c.new-rows.ensures w.rows-is

@@ -4,4 +4,4 @@ use Rattle.row_scan.proofs.FitTrees.{HaveRows}
 use Rattle.row_scan.proofs.tree.check_batch.Given as goal
 
 abbrev pub invariant-rows : goal.invariant-rows
-invariant-rows l = HaveRows l.width (take l.index l.batch)
+invariant-rows l = HaveRows l.shape (take l.index l.batch)
