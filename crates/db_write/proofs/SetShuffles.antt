@@ -2,15 +2,19 @@
 use Rattle.std.proofs.Common.{◌≡◌, refl, sym, ap, subst, ◌∙◌, ℕ, ℤ, Bool, true, false, cond, not, filter, List, [], ◌∷◌, map, Option, Some, None, if◌then◌else◌, Ok, Err}
 use Rattle.sqlval.specs.Refusals.{Answer, Refusal, ◌then◌, all_answers}
 use Rattle.catalog.specs.Listed.{own_column}
+use Rattle.catalog.specs.Rows.{holds_rowid}
 use Rattle.catalog.specs.declared.tables.Table.{Table}
 use Rattle.query_terms.specs.Terms.{Term}
 use Rattle.row_scan.specs.Rows.{TableRow}
 use Rattle.row_scan.specs.Sources.{as_source}
+use Rattle.row_scan.proofs.RowOrder.{both_true}
 use Rattle.row_change.specs.Choosing.{is_chosen, tested}
 use Rattle.row_change.specs.Choosing.{chosen_or_all}
-use Rattle.row_change.specs.Setting.{row_set, rows_changed, rows_meant_set, rows_set, rows_set_each, rows_turned}
+use Rattle.row_change.specs.NewRows.{all_hold}
+use Rattle.row_change.specs.Setting.{keeps_rowids, row_set, rows_changed, rows_meant_set, rows_set, rows_set_each, rows_turned}
 use Rattle.index_entries.specs.Replacing.{rowids}
 use Rattle.row_change.proofs.Replaced.{made, set_keeps}
+use Rattle.row_change.proofs.Rising.{both}
 use Rattle.row_change.proofs.SetTrees.{changed_known, meant_by}
 use Rattle.db_write.proofs.Shuffling.{Shuffles, no_rows, one_comes, one_stays}
 
@@ -79,20 +83,32 @@ module _ (table : Table) (sets : List (ℕ × Term)) (c : Option Term) where
 
 -- ---- rowids
 
-module _ (table : Table) (sets : List (ℕ × Term)) (bare : own_column table ≡ None) where
-  -- a row that is set keeps its rowid, where no column holds that
-  row_kept : (row now : TableRow) → row_set table sets row ≡ Ok now → row.0 ≡ now.0
-  row_kept row now e = sym (set_keeps table sets bare row now e)
+-- some of rows that hold their rowids
+some_hold : (own : Option ℕ) (test : TableRow → Bool) (rows : List TableRow) → all_hold own rows ≡ true → all_hold own (filter test rows) ≡ true
+some_hold own test [] held = refl
+some_hold own test (row ∷ rows) held =
+    let halves = both (holds_rowid own row) (all_hold own rows) held in
+    by (test row) halves.0 (some_hold own test rows halves.1)
+  where
+    by : (b : Bool) → holds_rowid own row ≡ true → all_hold own (filter test rows) ≡ true → all_hold own (cond b (row ∷ filter test rows) (filter test rows)) ≡ true
+    by true first rest = both_true (holds_rowid own row) (all_hold own (filter test rows)) first rest
+    by false first rest = rest
 
-  all_kept : (rows come : List TableRow) → all_answers (map (row_set table sets) rows) ≡ Ok come → rowids rows ≡ rowids come
-  all_kept [] come e = ap rowids (same_rows [] come e)
-  all_kept (row ∷ rows) come e =
+module _ (table : Table) (sets : List (ℕ × Term)) (stays : keeps_rowids table sets ≡ true) where
+  -- a row that is set keeps its rowid, where SET leaves the rowids
+  row_kept : (row now : TableRow) → holds_rowid (own_column table) row ≡ true → row_set table sets row ≡ Ok now → row.0 ≡ now.0
+  row_kept row now holds e = sym (set_keeps table sets stays row now holds e)
+
+  all_kept : (rows come : List TableRow) → all_hold (own_column table) rows ≡ true → all_answers (map (row_set table sets) rows) ≡ Ok come → rowids rows ≡ rowids come
+  all_kept [] come held e = ap rowids (same_rows [] come e)
+  all_kept (row ∷ rows) come held e =
+      let halves = both (holds_rowid (own_column table) row) (all_hold (own_column table) rows) held in
       let p = parts_of (row_set table sets row) (all_answers (map (row_set table sets) rows)) come e in
-      ap (λ (n : ℤ). n ∷ rowids rows) (row_kept row p.row p.first_is) ∙ ap (λ (ns : List ℤ). p.row.0 ∷ ns) (all_kept rows p.more p.more_is) ∙ ap rowids p.are
+      ap (λ (n : ℤ). n ∷ rowids rows) (row_kept row p.row halves.0 p.first_is) ∙ ap (λ (ns : List ℤ). p.row.0 ∷ ns) (all_kept rows p.more halves.1 p.more_is) ∙ ap rowids p.are
 
   -- those that are meant keep their rowids
-  pub rowids_kept : (c : Option Term) (rows come : List TableRow) → rows_changed table sets c (map as_source rows) ≡ Ok come → rowids (filter (meant_by c) rows) ≡ rowids come
-  rowids_kept c rows come e = all_kept (filter (meant_by c) rows) come (changed_known table sets c rows come e).0
+  pub rowids_kept : (c : Option Term) (rows come : List TableRow) → all_hold (own_column table) rows ≡ true → rows_changed table sets c (map as_source rows) ≡ Ok come → rowids (filter (meant_by c) rows) ≡ rowids come
+  rowids_kept c rows come held e = all_kept (filter (meant_by c) rows) come (some_hold (own_column table) (meant_by c) rows held) (changed_known table sets c rows come e).0
 
 -- ---- the rows that are meant
 

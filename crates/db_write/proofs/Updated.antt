@@ -1,5 +1,5 @@
 -- What updating rows with their entries comes to.
-use Rattle.std.proofs.Common.{◌≡◌, ◌⊎◌, ◌∙◌, inl, inr, sym, ap, subst, ℕ, true, false, not, filter, List, [], ◌∷◌, ◌++◌, length, map, Option, None, Ok, Err, refl, arith}
+use Rattle.std.proofs.Common.{◌≡◌, ◌⊎◌, ◌∙◌, inl, inr, sym, ap, subst, ℕ, true, false, not, filter, List, [], ◌∷◌, ◌++◌, length, map, Option, Ok, Err, refl, arith}
 use Rattle.std.specs.Prelude.{Result, IsErrAnd, MatchResult, ⊤}
 use Rattle.std.specs.Global.{Vec}
 use Rattle.std.specs.List.{list_any}
@@ -11,7 +11,7 @@ use Rattle.sqlval.specs.declared.fault.Fault.TheVariants.{TooLong}
 use Rattle.pages.specs.Calls.{IsOutsideOrFull}
 use Rattle.pages.specs.Map.{PageMap}
 use Rattle.db_layout.specs.Layout.{Owner}
-use Rattle.catalog.specs.Listed.{own_column, with_rows}
+use Rattle.catalog.specs.Listed.{with_rows}
 use Rattle.catalog.specs.Rows.{are_rows}
 use Rattle.catalog.specs.declared.tables.Index.{Index}
 use Rattle.catalog.specs.declared.tables.Table.{Table}
@@ -23,8 +23,10 @@ use Rattle.row_scan.specs.Rows.{TableRow}
 use Rattle.row_change.specs.Agreement.{SetsAsEach, has_unique}
 use Rattle.row_change.specs.Choosing.{chosen_or_all}
 use Rattle.row_change.specs.Meaning.{AreEnough}
+use Rattle.row_change.specs.Setting.{keeps_rowids}
 use Rattle.row_change.specs.Updating.{AreSetIn, IsSetRefusal, SetsRows, TellsChanged}
 use Rattle.row_change.proofs.SetTrees.{meant_by}
+use Rattle.row_change.proofs.Updates.{fit_rows_hold}
 use Rattle.index_entries.specs.Entries.{AreApart}
 use Rattle.index_entries.specs.Keeping.{row_in}
 use Rattle.index_entries.specs.Replacing.{rowids}
@@ -57,24 +59,24 @@ module _ (old mid : PageMap) (size : ℕ) (table : Table) (c : Option Term) (set
         by rows (inl memory) = inl (inl (inl memory))
         by rows (inr e) = inr (inl (meant_refused table sets c rows (refusal_of fault) e))
 
-  -- without a UNIQUE index and a column for the rowid all rows are set at once
-  module _ (law : SetsAsEach) (plain : has_unique table ≡ false) (bare : own_column table ≡ None) (found : List Row) (loads : LoadsEnough old size table c (Ok found)) where
+  -- without a UNIQUE index, and where SET leaves the rowids, all rows are set at once
+  module _ (law : SetsAsEach) (plain : has_unique table ≡ false) (stays : keeps_rowids table sets ≡ true) (found : List Row) (loads : LoadsEnough old size table c (Ok found)) where
     -- no row is set
     pub none_set : (fault : Fault) (result : Result ⊤ Fault) → IsErrAnd result (λ e. e ≡ fault) → SetsRows {X = ⊤} old mid size table.root table sets c found (Err fault) → UpdatesInTrees old mid size table c sets result
     none_set fault (Ok done) same sets_so = absurd same
     none_set fault (Err e) same sets_so = λ schema before after rows sized is_root among fit. (
         let s = rows_among old size schema before table rows after among sized is_root in
-        subst (λ (f : Fault). IsRefusedUpdate table c sets rows f) (sym same) (by rows fit (sets_so rows s.entries s.used s.free bare s.stands s.each (loads schema before after rows sized is_root among fit))))
+        subst (λ (f : Fault). IsRefusedUpdate table c sets rows f) (sym same) (by rows fit (sets_so rows s.entries s.used s.free stays s.stands s.each (loads schema before after rows sized is_root among fit))))
       where
         by : (rows : List TableRow) → are_rows (with_rows table rows) ≡ true → IsSetRefusal table sets c rows fault → IsRefusedUpdate table c sets rows fault
         by rows fit (inl outside) = inl outside
-        by rows fit (inr e) = inr (inl (law table sets c rows plain bare fit ∙ e))
+        by rows fit (inr e) = inr (inl (law table sets c rows plain stays fit ∙ e))
 
     -- rows are set; then the indexes follow
     module _ (sets_so : SetsRows {X = ⊤} old mid size table.root table sets c found (Ok tt)) (schema : Owner) (before after : List Owner) (rows : List TableRow) (s : RowsStand old size schema before table rows after)
         (enough : AreEnough c found rows) (fit : are_rows (with_rows table rows) ≡ true) where
       set : AreSetIn old mid size table.root table sets c rows s.used s.free
-      set = sets_so rows s.entries s.used s.free bare s.stands s.each enough
+      set = sets_so rows s.entries s.used s.free stays s.stands s.each enough
 
       fits : are_rows (with_rows table set.now) ≡ true
       fits = set.fit fit
@@ -88,7 +90,7 @@ module _ (old mid : PageMap) (size : ℕ) (table : Table) (c : Option Term) (set
       updated : (new : PageMap) → HaveNow mid new size schema Before table.indexes set.now after → AreUpdated old new size schema before table c sets rows after
       updated new have = record {
         now = set.now;
-        answer = law table sets c rows plain bare fit ∙ set.answer;
+        answer = law table sets c rows plain stays fit ∙ set.answer;
         hold = record { holds = table_holds old mid size schema before table rows after s set.entries set.becomes new set.now set.each have; fit = fits };
       }
 
@@ -124,7 +126,7 @@ module _ (old mid : PageMap) (size : ℕ) (table : Table) (c : Option Term) (set
         came = changed_shuffle table sets c rows (map row_in come.items) now (tells rows enough) (set sets_so schema before after rows s enough fit).answer
 
         same_rowids : rowids (map row_in gone.items) ≡ rowids (map row_in come.items)
-        same_rowids = sym (ap rowids gone_are) ∙ rowids_kept table sets bare c rows (map row_in come.items) (tells rows enough)
+        same_rowids = sym (ap rowids gone_are) ∙ rowids_kept table sets stays c rows (map row_in come.items) (fit_rows_hold table rows fit) (tells rows enough)
 
         now_apart : AreApart now
         now_apart = fit_apart table now (fits sets_so schema before after rows s enough fit)

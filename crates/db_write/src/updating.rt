@@ -1,10 +1,10 @@
 //! Rows that are updated, with their entries.
 
-ghost use Rattle.std.specs.Prelude.{◌≡◌, false, None, IsTrue, length, map};
+ghost use Rattle.std.specs.Prelude.{◌≡◌, false, true, IsTrue, length, map};
 ghost use Rattle.pages.specs.Calls.{Causes};
-ghost use Rattle.catalog.specs.Listed.{own_column};
 ghost use Rattle.query_terms.specs.Rows.{row_at};
 ghost use Rattle.row_change.specs.Agreement.{has_unique};
+ghost use Rattle.row_change.specs.Setting.{keeps_rowids};
 ghost use Rattle.db_write.specs.Changing.{UpdatesInTrees};
 ghost use Rattle.db_write.specs.OneRow.{TurnsFrom, TurnsRow};
 
@@ -15,12 +15,13 @@ use catalog::Table;
 use pages::WritePages;
 use query_terms::{SourceRow, Term};
 use row_change::{
-    meant_places, meant_rows, row_copy, rows_without_keys_are_free, set_new_rows, set_row,
+    keeps_rowids, meant_places, meant_rows, row_copy, rows_without_keys_are_free, set_new_rows,
+    set_row,
 };
 use sqlval::{Many, R};
 use std::alloc::Global;
 
-/// Sets values in the rows of a table without indexes and without a column for its rowid. (What `enough_rows` and `set_new_rows` refuse.)
+/// Sets values in the rows of a table without indexes, where SET leaves the rowids. (What `enough_rows` and `set_new_rows` refuse.)
 fn set_bare_rows<P: WritePages>(
     alloc: Global,
     pages: &mut P,
@@ -29,7 +30,7 @@ fn set_bare_rows<P: WritePages>(
     sets: &[(usize, Term)],
 ) -> R<()>
     requires bare { length table.now.indexes ≡ 0 }
-    requires no_own { own_column table.now ≡ None }
+    requires kept { keeps_rowids table.now sets.now ≡ true }
     ensures updated { IsTrue (P.Pages.tells (P.Pages.below pages.old))
         → UpdatesInTrees (P.Pages.map pages.old) (P.Pages.map pages.new)
         (P.Pages.limits (P.Pages.below pages.old)).page
@@ -44,8 +45,8 @@ fn set_bare_rows<P: WritePages>(
     Ok(())
 }
 
-/// Sets values in the rows of a table without a UNIQUE index and without a column for its rowid, and puts the entries that they have then in place
-/// of those that they had in the trees of its indexes, one index after another. (What `enough_rows`, `meant_rows`, `set_new_rows` and
+/// Sets values in the rows of a table without a UNIQUE index, where SET leaves the rowids, and puts the entries that they have then in place of
+/// those that they had in the trees of its indexes, one index after another. (What `enough_rows`, `meant_rows`, `set_new_rows` and
 /// `replace_entries` refuse.)
 fn set_indexed_rows<P: WritePages>(
     alloc: Global,
@@ -55,7 +56,7 @@ fn set_indexed_rows<P: WritePages>(
     sets: &[(usize, Term)],
 ) -> R<()>
     requires plain { has_unique table.now ≡ false }
-    requires no_own { own_column table.now ≡ None }
+    requires kept { keeps_rowids table.now sets.now ≡ true }
     ensures updated { IsTrue (P.Pages.tells (P.Pages.below pages.old))
         → UpdatesInTrees (P.Pages.map pages.old) (P.Pages.map pages.new)
         (P.Pages.limits (P.Pages.below pages.old)).page
@@ -148,9 +149,9 @@ fn set_each<P: WritePages>(
 
 /// Sets values in the rows of a table for which a condition is true, or in all where there is none, and changes their entries in its indexes
 /// accordingly. Rows are read once. An entry that stays as it is costs no page, except that a UNIQUE index is searched for another row of
-/// its key; where there is such an index, or a column for the rowid, a row changes with its entries before the next one. (What the condition,
-/// SET's expressions, the columns and the table refuse for a row, in order; `Unique` for a row that has another's rowid then, or its key in a
-/// UNIQUE index; `TooLong` for an index of more than 999 columns; `Memory`, `Io`, `Full`. Then some pages may have changed.)
+/// its key; where there is such an index, or SET may give a row another rowid, a row changes with its entries before the next one. (What the
+/// condition, SET's expressions, the columns and the table refuse for a row, in order; `Unique` for a row that has another's rowid then, or its key
+/// in a UNIQUE index; `TooLong` for an index of more than 999 columns; `Memory`, `Io`, `Full`. Then some pages may have changed.)
 pub fn update_rows<P: WritePages>(
     alloc: Global,
     pages: &mut P,
@@ -166,7 +167,7 @@ pub fn update_rows<P: WritePages>(
     ensures causes { Causes result (P.Pages.failures pages.old) (P.Pages.failures pages.new)
         (P.Pages.count pages.new ≡ (P.Pages.limits (P.Pages.below pages.new)).most) }
 {
-    if has_unique(table) || table.own_column().is_some() {
+    if has_unique(table) || !keeps_rowids(table, sets) {
         set_each(alloc, pages, table, condition, sets)
     } else if table.indexes.as_slice().is_empty() {
         set_bare_rows(alloc, pages, table, condition, sets)

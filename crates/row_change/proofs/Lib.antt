@@ -7,6 +7,7 @@ mod Checks
 mod FitRows
 mod Folding
 mod IntoTrees
+pub mod KeptRowids
 mod OwnPlaces
 mod Placed
 mod PutRows

@@ -95,6 +95,18 @@ left_holds (Some i) rowid now vs e = by (slice_get vs i) e
     by (Some (Text t)) h = absurd cc
     by (Some (Blob b)) h = absurd cc
 
+-- a row's own column has its rowid
+pub held_at : (place : ℕ) (n : ℤ) (vs : List Value) → holds_rowid (Some place) (n, vs) ≡ true → slice_get vs place ≡ Some (Int n)
+held_at place n vs e = by (slice_get vs place) e
+  where
+    by : (o : Option Value) → elim o [ None ↦ false | Some v ↦ is_same_value v (Int n) ] ≡ true → o ≡ Some (Int n)
+    by None h = absurd (false≢true h)
+    by (Some v) h = ap (λ (w : Value). Some w) (rowid_is v n h)
+
+-- where its own column has its rowid still, an UPDATE leaves that
+pub left_as_held : (place : ℕ) (n now : ℤ) (vs : List Value) → slice_get vs place ≡ Some (Int n) → rowid_left (Some place) n vs ≡ Ok now → now ≡ n
+left_as_held place n now vs at e = sym (same_rowid n now (sym (ap (λ (o : Option Value). of_value (unwrap_or o Null)) at) ∙ e))
+
 -- without such a column it stays
 pub left_same : (rowid now : ℤ) (vs : List Value) → rowid_left None rowid vs ≡ Ok now → now ≡ rowid
 left_same rowid now vs e = sym (same_rowid rowid now e)

@@ -29,15 +29,16 @@ use Rattle.row_scan.specs.Sources.{as_source}
 use Rattle.row_scan.proofs.RowOrder.{both_true}
 use Rattle.row_change.specs.Constraints.{set_values, with_affinity}
 use Rattle.row_change.specs.Demands.{demanded}
-use Rattle.row_change.specs.NewRows.{IsReplacement, IsWritten, entry_left}
+use Rattle.row_change.specs.NewRows.{IsReplacement, IsWritten, all_hold, entry_left}
 use Rattle.record.specs.Writing.{AreStorable}
-use Rattle.row_change.specs.Setting.{row_after, row_set, rowid_left, rows_meant_set, values_set}
+use Rattle.row_change.specs.Setting.{keeps_rowids, row_after, row_set, rowid_left, rowid_number, rows_meant_set, source_set, values_set}
 use Rattle.row_change.specs.Trees.{FitNow}
 use Rattle.row_change.specs.Updating.{ReplacesRows, with_all_replaced}
 use Rattle.row_change.proofs.AmongRows.{in_place, stays_before}
 use Rattle.row_change.proofs.Demanded.{demanded_fits, is_demanded}
 use Rattle.row_change.proofs.FitRows.{row_fits, word_fits}
-use Rattle.row_change.proofs.OwnPlaces.{left_holds, left_same}
+use Rattle.row_change.proofs.KeptRowids.{rowid_kept}
+use Rattle.row_change.proofs.OwnPlaces.{left_holds}
 use Rattle.row_change.proofs.Rising.{Climbs, Rises, both, further}
 
 -- ---- the call
@@ -141,9 +142,9 @@ module _ (table : Table) (sets : List (ℕ × Term)) where
   pub set_parts : (row now : TableRow) → row_set table sets row ≡ Ok now → (rowid_left (own_column table) row.0 now.1 ≡ Ok now.0) × (values_set table.columns sets (as_source row) ≡ Ok now.1)
   set_parts row now e = after_parts row.0 (as_source row) now e
 
-  -- without such a column it keeps its rowid
-  pub set_keeps : own_column table ≡ None → (row now : TableRow) → row_set table sets row ≡ Ok now → now.0 ≡ row.0
-  set_keeps plain row now e = left_same row.0 now.0 now.1 (ap (λ (own : Option ℕ). rowid_left own row.0 now.1) (sym plain) ∙ (set_parts row now e).0)
+  -- where SET leaves the rowids it keeps its own
+  pub set_keeps : keeps_rowids table sets ≡ true → (row now : TableRow) → holds_rowid (own_column table) row ≡ true → row_set table sets row ≡ Ok now → now.0 ≡ row.0
+  set_keeps kept row now holds e = (let parts = set_parts row now e in rowid_kept table sets kept row now holds parts.0 parts.1)
 
   -- its own column holds its rowid
   pub set_holds : (rowid : ℤ) (row : Row) (now : TableRow) → row_after table sets rowid row ≡ Ok now → holds_rowid (own_column table) now ≡ true
@@ -157,6 +158,15 @@ module _ (table : Table) (sets : List (ℕ × Term)) where
     full = long_set row now.1 full (set_parts row now e).1;
     own = set_holds row.0 (as_source row) now e;
   }
+
+  -- what rows become hold their rowids
+  pub after_hold : (them : List Row) (new : List TableRow) → all_answers (map (source_set table sets) them) ≡ Ok new → all_hold (own_column table) new ≡ true
+  after_hold [] [] e = refl
+  after_hold [] (x ∷ new) e = absurd cc
+  after_hold (r ∷ them) new e =
+      let parts = parts_of (source_set table sets r) (all_answers (map (source_set table sets) them)) new e in
+      subst (λ (rows : List TableRow). all_hold (own_column table) rows ≡ true) parts.are
+      (both_true (holds_rowid (own_column table) parts.row) (all_hold (own_column table) parts.more) (set_holds (rowid_number r.rowid) r parts.row parts.first_is) (after_hold them parts.more parts.more_is))
 
   -- what it becomes can be stored
   pub after_fits : (rowid : ℤ) (row : Row) (now : TableRow) → row_after table sets rowid row ≡ Ok now → AreStorable now.1
@@ -242,7 +252,7 @@ module _ (table : Table) (sets : List (ℕ × Term)) (is_meant : TableRow → Bo
       let parts = parts_of (row_set table sets r) (all_answers (map (row_set table sets) olds)) new e in
       subst (All CanStore) parts.are (all_with CanStore parts.row parts.more (after_fits table sets r.0 (as_source r) parts.row parts.first_is) (all_fit olds parts.more parts.more_is))
 
-module _ (table : Table) (sets : List (ℕ × Term)) (is_meant : TableRow → Bool) (plain : own_column table ≡ None) where
+module _ (table : Table) (sets : List (ℕ × Term)) (is_meant : TableRow → Bool) (kept : keeps_rowids table sets ≡ true) where
   -- where the rows become these, their records leave the tree with all rows
   pub record AreSet (rows new : List TableRow) (entries more : List Entry) : Type 0 where
     pub now : List TableRow
@@ -269,9 +279,9 @@ module _ (table : Table) (sets : List (ℕ × Term)) (is_meant : TableRow → Bo
   }
 
   -- where a table may hold the row, it may hold what it becomes
-  still_fits : (held : List TableRow) (r x : TableRow) → row_set table sets r ≡ Ok x → is_row (with_rows table held) r ≡ true → length x.1 ≡ length table.columns → list_all is_value x.1 ≡ true → is_row (with_rows table held) x ≡ true
-  still_fits held r x e was long fit =
-      row_fits (with_rows table held) x (ap is_word (set_keeps table sets plain r x e) ∙ word_fits (with_rows table held) r was) (long ∙ sym (length-map table.columns as_column)) fit (set_holds table sets r.0 (as_source r) x e)
+  still_fits : (held : List TableRow) (r x : TableRow) → holds_rowid (own_column table) r ≡ true → row_set table sets r ≡ Ok x → is_row (with_rows table held) r ≡ true → length x.1 ≡ length table.columns → list_all is_value x.1 ≡ true → is_row (with_rows table held) x ≡ true
+  still_fits held r x holds e was long fit =
+      row_fits (with_rows table held) x (ap is_word (set_keeps table sets kept r x holds e) ∙ word_fits (with_rows table held) r was) (long ∙ sym (length-map table.columns as_column)) fit (set_holds table sets r.0 (as_source r) x e)
 
   one_set : (r x : TableRow) (rows new : List TableRow) (entry m : Entry) (entries more : List Entry) → is_meant r ≡ true → IsRow (shape_of table) entry r → Climbs r.0 rows → row_set table sets r ≡ Ok x → IsWritten (own_column table) x m
       → AreSet rows new entries more → AreSet (r ∷ rows) (x ∷ new) (entry ∷ entries) (m ∷ more)
@@ -285,12 +295,12 @@ module _ (table : Table) (sets : List (ℕ × Term)) (is_meant : TableRow → Bo
     ids = let h = keeps in let k = set.ids in cc;
     fit = λ held all.
         (let halves = both (is_row (with_rows table held) r) (list_all (is_row (with_rows table held)) rows) all in
-        both_true (is_row (with_rows table held) x) (list_all (is_row (with_rows table held)) set.now) (still_fits held r x e halves.0 made.full written.fit) (set.fit held halves.1));
+        both_true (is_row (with_rows table held) x) (list_all (is_row (with_rows table held)) set.now) (still_fits held r x is.own e halves.0 made.full written.fit) (set.fit held halves.1));
     over = λ low climbs. (subst (λ (n : ℤ). low <ℤ n) (sym at) climbs.0, set.over low (lower low r.0 rows climbs.0 climbs.1));
   }
     where
       keeps : x.0 ≡ r.0
-      keeps = set_keeps table sets plain r x e
+      keeps = set_keeps table sets kept r x is.own e
 
       made : IsRow (shape_of table) m x
       made = set_is_row table sets r x m e is.full written

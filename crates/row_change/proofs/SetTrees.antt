@@ -34,14 +34,14 @@ use Rattle.row_change.specs.Demands.{with_own_rowid}
 use Rattle.row_change.specs.Choosing.{chosen_or_all, is_chosen, tested}
 use Rattle.row_change.specs.Inserting.{AllStorable}
 use Rattle.row_change.specs.Meaning.{AreEnough}
-use Rattle.row_change.specs.NewRows.{IsWritten, row_of}
+use Rattle.row_change.specs.NewRows.{IsWritten, all_hold}
 use Rattle.row_change.specs.Putting.{MovesRow}
 use Rattle.row_change.specs.Setting.{row_set, rowid_left, rowid_number, rows_changed, rows_meant, rows_meant_set, rows_set_each, source_set}
 use Rattle.row_change.specs.Updating.{AreSetIn, IsSetIn, IsSetRefusal, ReplacesRows, SetsRow, SetsRows, TellsChanged, row_moved, with_all_replaced}
 use Rattle.row_change.proofs.AmongRows.{find_others, fit_put, fit_without, is_there, one_of_all, own_free, own_taken, put_pairs, replaced_moves, without_pairs}
 use Rattle.row_change.proofs.FitRows.{row_fits, word_fits}
 use Rattle.row_change.proofs.OwnPlaces.{held_word, left_same}
-use Rattle.row_change.proofs.Replaced.{after_fits, all_fit, are_set, fit_now, made, set_holds, set_is_row, set_parts, set_refused}
+use Rattle.row_change.proofs.Replaced.{after_fits, after_hold, all_fit, are_set, fit_now, made, set_holds, set_is_row, set_parts, set_refused}
 use Rattle.row_change.proofs.Rising.{Rises, both, rows_rise}
 use Rattle.row_change.proofs.SetRows.{map_twice}
 
@@ -131,6 +131,14 @@ module _ (table : Table) (sets : List (ℕ × Term)) (c : Option Term) where
       by (Ok ts) h = set_refused table sets (meant_by c) rows why h
       by (Err r) h = h
 
+  -- what the rows become hold their rowids
+  pub changed_hold : (rows : List Row) (new : List TableRow) → rows_changed table sets c rows ≡ Ok new → all_hold (own_column table) new ≡ true
+  changed_hold rows new e = by (rows_meant c [] rows) e
+    where
+      by : (a : Answer (List Row)) → (a then changes) ≡ Ok new → all_hold (own_column table) new ≡ true
+      by (Ok them) h = after_hold table sets them new h
+      by (Err r) h = absurd cc
+
   -- what the rows become of which it's enough to read some
   enough_changed : (found : List Row) (rows : List TableRow) → AreEnough c found rows → rows_changed table sets c found ≡ rows_changed table sets c (map as_source rows)
   enough_changed found rows enough =
@@ -145,13 +153,13 @@ module _ (table : Table) (sets : List (ℕ × Term)) (c : Option Term) where
         → ((rows : List TableRow) → AreEnough c found rows → IsSetRefusal table sets c rows fault)
         → SetsRows old new size root table sets c found result
     refused fault (Ok x) same why = absurd same
-    refused fault (Err e) same why = λ rows entries used free plain is each enough. subst (λ (g : Fault). IsSetRefusal table sets c rows g) (sym same) (why rows enough)
+    refused fault (Err e) same why = λ rows entries used free kept is each enough. subst (λ (g : Fault). IsSetRefusal table sets c rows g) (sym same) (why rows enough)
 
     -- a call that passes it on
     pub passed_on : {X : Type 0} (fault : Fault) (result : Result X Fault) → IsErrAnd result (λ e. e ≡ fault) → SetsRows {X = ⊤} old new size root table sets c found (Err fault)
         → SetsRows old new size root table sets c found result
     passed_on fault (Ok x) same sets_so = absurd same
-    passed_on fault (Err e) same sets_so = λ rows entries used free plain is each enough. subst (λ (g : Fault). IsSetRefusal table sets c rows g) (sym same) (sets_so rows entries used free plain is each enough)
+    passed_on fault (Err e) same sets_so = λ rows entries used free kept is each enough. subst (λ (g : Fault). IsSetRefusal table sets c rows g) (sym same) (sets_so rows entries used free kept is each enough)
 
     pub none_changed : {X : Type 0} (fault : Fault) (result : Result X Fault) → IsErrAnd result (λ e. e ≡ fault) → IsRefusedBy (rows_changed table sets c found) fault → SetsRows old new size root table sets c found result
     none_changed fault result same why = refused fault result same (λ rows enough. by rows enough why)
@@ -171,8 +179,8 @@ module _ (table : Table) (sets : List (ℕ × Term)) (c : Option Term) where
           by rows enough (inl memory) = inl (inl (inl memory))
           by rows enough (inr (long, cannot)) = absurd (cannot (all_fit table sets (meant_by c) (filter (meant_by c) rows) changed (known rows enough).0))
 
-      pub rows_replaced : (more : List Entry) (result : Result ⊤ Fault) → Pairwise (IsWritten None) changed more → ReplacesRows old new size root (with_all_replaced more) result → SetsRows old new size root table sets c found result
-      rows_replaced more result written replaces rows entries used free plain is each enough = by result (replaces entries used free is)
+      pub rows_replaced : (more : List Entry) (result : Result ⊤ Fault) → Pairwise (IsWritten (own_column table)) changed more → ReplacesRows old new size root (with_all_replaced more) result → SetsRows old new size root table sets c found result
+      rows_replaced more result written replaces rows entries used free kept is each enough = by result (replaces entries used free is)
         where
           rises : Rises rows
           rises = rows_rise (shape_of table) entries rows (tree_rises old size root entries used is.tree) each
@@ -181,14 +189,14 @@ module _ (table : Table) (sets : List (ℕ × Term)) (c : Option Term) where
               → MatchResult r (λ done. AreSetIn old new size root table sets c rows used free) (IsSetRefusal table sets c rows)
           by (Ok done) becomes =
               let are = known rows enough in
-              let set = are_set table sets (meant_by c) plain rows changed entries more each rises are.0 (subst (λ (own : Option ℕ). Pairwise (IsWritten own) changed more) (sym plain) written) in
+              let set = are_set table sets (meant_by c) kept rows changed entries more each rises are.0 written in
               record {
                 now = set.now;
                 answer = are.1 ∙ set.answer;
                 entries = with_all_replaced more entries;
                 becomes = becomes;
                 each = set.each;
-                fit = fit_now table sets (meant_by c) plain rows changed entries more set;
+                fit = fit_now table sets (meant_by c) kept rows changed entries more set;
               }
           by (Err fault) cannot = inl cannot
 
@@ -198,8 +206,8 @@ module _ (table : Table) (sets : List (ℕ × Term)) (c : Option Term) where
     none_told fault (Ok x) same = absurd same
     none_told fault (Err e) same = λ rows enough. tt
 
-    pub told_changed : (them : Vec stored.TableRow) → rows_changed table sets c found ≡ Ok (map row_of them.items) → TellsChanged table sets c found (Ok them)
-    told_changed them answer rows enough = sym (enough_changed found rows enough) ∙ answer
+    pub told_changed : (changed now : List TableRow) → rows_changed table sets c found ≡ Ok changed → now ≡ changed → (rows : List TableRow) → AreEnough c found rows → rows_changed table sets c (map as_source rows) ≡ Ok now
+    told_changed changed now answer same rows enough = sym (enough_changed found rows enough) ∙ (answer ∙ ap (λ (them : List TableRow). Ok them) (sym same))
 
 -- ---- one row
 

@@ -3,6 +3,7 @@ use Rattle.std.proofs.Common.{◌≡◌, refl, sym, ap, subst, ◌∙◌, ℕ, �
 use Rattle.std.specs.Prelude.{filter, slice_get, unwrap_or, zip}
 use Rattle.std.specs.Cmp.{int_cmp_is}
 use Rattle.std.specs.FinMap.Entries.{put, find, by_order}
+use Rattle.std.specs.List.{list_all}
 use Rattle.std.specs.Ordering.{int_cmp, is_eq}
 use Rattle.std.specs.declared.cmp.Ordering.TheVariants.{Greater, Less}
 use Rattle.sqlval.specs.Names.{folded}
@@ -13,6 +14,7 @@ use Rattle.catalog.specs.Database.{Name, Database, ATable, row, with_object, wit
 use Rattle.catalog.specs.Laws.{KeepsOnlyPlain}
 use Rattle.catalog.specs.Listed.{has_only_plain, own_column, with_rows, as_column}
 use Rattle.catalog.specs.Named.{KeepsNamed, OneDatabase}
+use Rattle.catalog.specs.Rows.{are_rows, holds_rowid, is_row}
 use Rattle.catalog.specs.declared.tables.Table.{Table}
 use Rattle.row_scan.specs.Rows.{TableRow}
 use Rattle.query_terms.specs.Terms.{Term}
@@ -23,14 +25,16 @@ use Rattle.row_change.specs.Demands.{admitted, demanded, is_alone}
 use Rattle.row_change.specs.RowChanges.{Fire, update_row}
 use Rattle.query_names.specs.Readings.{env_of, values}
 use Rattle.row_scan.specs.Sources.{as_source}
-use Rattle.row_change.specs.Setting.{row_set, rowid_left, rows_beside, rows_meant_set, rows_turned, values_set}
+use Rattle.row_change.specs.NewRows.{all_hold}
+use Rattle.row_change.specs.Setting.{keeps_rowids, row_set, rowid_left, rows_beside, rows_meant_set, rows_turned}
 use Rattle.row_change.specs.Choosing.{is_chosen, tested}
 use Rattle.row_change.proofs.Alone.{free_alone, indexes_stay}
 use Rattle.row_change.proofs.Deletions.{climbs_over, found_behind, gone_behind, put_itself, rest_rises, same_values}
-use Rattle.row_change.proofs.Demanded.{is_demanded}
 use Rattle.row_change.proofs.Folding.{KeepsTables, put_again, put_there, stored_as, tables_kept}
 use Rattle.row_change.proofs.Placed.{AreThere, is_admitted, lower, others_there, raised, rises_filter}
-use Rattle.row_change.proofs.Rising.{Climbs, Rises, fit_rows_rise}
+use Rattle.row_change.proofs.KeptRowids.{all_held}
+use Rattle.row_change.proofs.Replaced.{set_keeps}
+use Rattle.row_change.proofs.Rising.{Climbs, Rises, both, fit_rows_rise}
 
 -- ---- a row between others
 
@@ -75,20 +79,10 @@ rise_with (k ∷ kept) r rows values rises = climb_with k.0 kept r rows values r
 abbrev given_row : TableRow → Answer TableRow
 given_row row = Ok row
 
--- what SET makes of a row keeps its rowid, where no column holds that
-set_keeps : (table : Table) (sets : List (ℕ × Term)) (row now : TableRow) → own_column table ≡ None → row_set table sets row ≡ Ok now → now.0 ≡ row.0
-set_keeps table sets row now bare e =
-    by (values_set table.columns sets (as_source row))
-    (subst (λ (o : Option ℕ). (values_set table.columns sets (as_source row) then λ values. rowid_left o row.0 values then λ rowid. demanded table (rowid, values)) ≡ Ok now) bare e)
-  where
-    by : (a : Answer (List Value)) → (a then λ values. demanded table (row.0, values)) ≡ Ok now → now.0 ≡ row.0
-    by (Ok values) h = ap (λ (r : TableRow). r.0) (sym (is_demanded table (row.0, values) now h))
-    by (Err f) h = absurd cc
-
 -- a row among others becomes what SET makes of it, and then the others are next
-pub turned_one : (table : Table) (sets : List (ℕ × Term)) (kept : List TableRow) (r : TableRow) (rows olds : List TableRow) → own_column table ≡ None → Rises (kept ++ (r ∷ rows))
+pub turned_one : (table : Table) (sets : List (ℕ × Term)) (kept : List TableRow) (r : TableRow) (rows olds : List TableRow) → keeps_rowids table sets ≡ true → holds_rowid (own_column table) r ≡ true → Rises (kept ++ (r ∷ rows))
     → rows_turned table sets (kept ++ (r ∷ rows)) (r ∷ olds) ≡ (row_set table sets r then λ new. admitted table (kept ++ rows) new then λ new. rows_turned table sets (kept ++ (new ∷ rows)) olds)
-turned_one table sets kept r rows olds bare rises = by (row_set table sets r) refl
+turned_one table sets kept r rows olds stays holds rises = by (row_set table sets r) refl
   where
     beside : rows_beside r.0 (kept ++ (r ∷ rows)) ≡ kept ++ rows
     beside = gone_behind kept r rows rises
@@ -107,7 +101,7 @@ turned_one table sets kept r rows olds bare rises = by (row_set table sets r) re
 
     by : (a : Answer TableRow) → row_set table sets r ≡ a
         → rows_turned table sets (kept ++ (r ∷ rows)) (r ∷ olds) ≡ (row_set table sets r then λ new. admitted table (kept ++ rows) new then λ new. rows_turned table sets (kept ++ (new ∷ rows)) olds)
-    by (Ok new) e = rw (e) (by_alone new (set_keeps table sets r new bare e) (is_alone table new (kept ++ rows)) refl)
+    by (Ok new) e = rw (e) (by_alone new (set_keeps table sets stays r new holds e) (is_alone table new (kept ++ rows)) refl)
     by (Err f) e = rw (e) refl
 
 -- ---- some rows
@@ -256,12 +250,15 @@ updates_some keeps one named fire name db table rows sets set is_meant still onl
 
 -- ---- without a UNIQUE index
 
-module _ (table : Table) (sets : List (ℕ × Term)) (is_meant : TableRow → Bool) (none : has_unique table ≡ false) (bare : own_column table ≡ None) where
-  free_turns : (rows : List TableRow) (kept : List TableRow) → Rises (kept ++ rows)
+module _ (table : Table) (sets : List (ℕ × Term)) (is_meant : TableRow → Bool) (none : has_unique table ≡ false) (stays : keeps_rowids table sets ≡ true) where
+  free_turns : (rows : List TableRow) (kept : List TableRow) → all_hold (own_column table) rows ≡ true → Rises (kept ++ rows)
       → rows_turned table sets (kept ++ rows) (filter is_meant rows) ≡ (rows_meant_set table sets is_meant rows then λ now. Ok (kept ++ now))
-  free_turns [] kept rises = refl
-  free_turns (r ∷ rows) kept rises = by_test (λ now. free_turns rows now) (is_meant r) refl
+  free_turns [] kept held rises = refl
+  free_turns (r ∷ rows) kept held rises = by_test (λ now. free_turns rows now halves.1) (is_meant r) refl
     where
+      halves : (holds_rowid (own_column table) r ≡ true) × (all_hold (own_column table) rows ≡ true)
+      halves = both (holds_rowid (own_column table) r) (all_hold (own_column table) rows) held
+
       longer : (new : TableRow) (answer : Answer (List TableRow)) → (answer then λ ns. Ok ((kept ++ new ∷ []) ++ ns)) ≡ ((answer then λ ns. Ok (new ∷ ns)) then λ ns. Ok (kept ++ ns))
       longer new (Ok ns) = ap (λ (rs : List TableRow). Ok rs) (append_assoc kept (new ∷ []) ns)
       longer new (Err f) = refl
@@ -270,15 +267,15 @@ module _ (table : Table) (sets : List (ℕ × Term)) (is_meant : TableRow → Bo
           → is_meant r ≡ true → (a : Answer TableRow) → row_set table sets r ≡ a
           → rows_turned table sets (kept ++ (r ∷ rows)) (filter is_meant (r ∷ rows)) ≡ (rows_meant_set table sets is_meant (r ∷ rows) then λ now. Ok (kept ++ now))
       by_row on it (Ok new) e =
-          let same : new.0 ≡ r.0 = set_keeps table sets r new bare e in
+          let same : new.0 ≡ r.0 = set_keeps table sets stays r new halves.0 e in
           let free : find int_cmp new.0 (kept ++ rows) ≡ None = subst (λ (n : ℤ). find int_cmp n (kept ++ rows) ≡ None) (sym same) (not_left kept r rows rises) in
           let shift : (kept ++ (new ∷ [])) ++ rows ≡ kept ++ (new ∷ rows) = append_assoc kept (new ∷ []) rows in
           let alone = free_alone table new (kept ++ rows) none in
-          rw (it, turned_one table sets kept r rows (filter is_meant rows) bare rises, e, free, alone)
+          rw (it, turned_one table sets kept r rows (filter is_meant rows) stays halves.0 rises, e, free, alone)
           (ap (λ (l : List TableRow). rows_turned table sets l (filter is_meant rows)) (sym shift)
           ∙ (on (kept ++ (new ∷ [])) (subst Rises (sym shift) (subst (λ (n : ℤ). Rises (kept ++ ((n, new.1) ∷ rows))) (sym same) (rise_with kept r rows new.1 rises)))
           ∙ longer new (rows_meant_set table sets is_meant rows)))
-      by_row on it (Err f) e = rw (it, turned_one table sets kept r rows (filter is_meant rows) bare rises, e) refl
+      by_row on it (Err f) e = rw (it, turned_one table sets kept r rows (filter is_meant rows) stays halves.0 rises, e) refl
 
       by_test : ((now : List TableRow) → Rises (now ++ rows) → rows_turned table sets (now ++ rows) (filter is_meant rows) ≡ (rows_meant_set table sets is_meant rows then λ ns. Ok (now ++ ns)))
           → (test : Bool) → is_meant r ≡ test
@@ -301,12 +298,16 @@ every_row : (rows : List TableRow) → filter (λ row. true) rows ≡ rows
 every_row [] = refl
 every_row (r ∷ rows) = ap (λ (rs : List TableRow). r ∷ rs) (every_row rows)
 
+-- rows that a table may hold hold their rowids
+pub fit_rows_hold : (table : Table) (rows : List TableRow) → are_rows (with_rows table rows) ≡ true → all_hold (own_column table) rows ≡ true
+fit_rows_hold table rows fit = all_held table rows rows (both _ (list_all (is_row (with_rows table rows)) rows) fit).1
+
 pub sets_as_each : SetsAsEach
-sets_as_each table sets None rows none bare fit =
+sets_as_each table sets None rows none stays fit =
     ap (rows_turned table sets rows) (sym (every_row rows))
-    ∙ (free_turns table sets (λ row. true) none bare rows [] (fit_rows_rise (with_rows table rows) fit) ∙ same_answer (rows_meant_set table sets (λ row. true) rows))
-sets_as_each table sets (Some c) rows none bare fit = by (all_answers (map (tested c) rows))
+    ∙ (free_turns table sets (λ row. true) none stays rows [] (fit_rows_hold table rows fit) (fit_rows_rise (with_rows table rows) fit) ∙ same_answer (rows_meant_set table sets (λ row. true) rows))
+sets_as_each table sets (Some c) rows none stays fit = by (all_answers (map (tested c) rows))
   where
     by : (a : Answer (List (Option Bool))) → ((a then λ tests. given_rows (filter (is_chosen c) rows)) then λ olds. rows_turned table sets rows olds) ≡ (a then λ tests. rows_meant_set table sets (is_chosen c) rows)
-    by (Ok tests) = free_turns table sets (is_chosen c) none bare rows [] (fit_rows_rise (with_rows table rows) fit) ∙ same_answer (rows_meant_set table sets (is_chosen c) rows)
+    by (Ok tests) = free_turns table sets (is_chosen c) none stays rows [] (fit_rows_hold table rows fit) (fit_rows_rise (with_rows table rows) fit) ∙ same_answer (rows_meant_set table sets (is_chosen c) rows)
     by (Err r) = refl

@@ -1,11 +1,11 @@
 -- What the rows of a tree and the definition of a table's rows agree in.
-use Rattle.std.specs.Prelude.{◌≡◌, ◌≤◌, ℕ, Bool, true, false, not, filter, List, [], map, length, Option, None, Ok, All}
+use Rattle.std.specs.Prelude.{◌≡◌, ◌≤◌, ℕ, Bool, true, false, not, filter, List, [], map, length, Option, Ok, All}
 use Rattle.std.specs.List.{list_any}
 use Rattle.sqlval.specs.Refusals.{◌then◌, fold_answer}
 use Rattle.sqlval.specs.declared.value.Value.{Value}
 use Rattle.sql_syntax.specs.declared.create.TriggerTime.{TriggerTime}
 use Rattle.catalog.specs.Database.{Name, Database, ATable, Index, indexes_of, with_object}
-use Rattle.catalog.specs.Listed.{as_index, has_only_plain, own_column, with_rows}
+use Rattle.catalog.specs.Listed.{as_index, has_only_plain, with_rows}
 use Rattle.catalog.specs.Named.{IsNamed}
 use Rattle.catalog.specs.declared.tables.Table.{Table}
 use Rattle.catalog.specs.Rows.{are_rows}
@@ -15,7 +15,7 @@ use Rattle.row_change.specs.Constraints.{table_of}
 use Rattle.row_change.specs.Inserting.{rows_inserted, values_given}
 use Rattle.row_change.specs.RowChanges.{Fire, Firing, delete_row, insert_row, update_row}
 use Rattle.row_change.specs.Changes.{no_outer}
-use Rattle.row_change.specs.Setting.{rows_set, rows_set_each, rows_turned}
+use Rattle.row_change.specs.Setting.{keeps_rowids, rows_set, rows_set_each, rows_turned}
 use Rattle.query_terms.specs.Terms.{Term}
 
 -- where there are only tables, nothing is set off
@@ -66,7 +66,7 @@ UpdatesSome = (fire : Fire) (name : Name) (db : Database) (table : Table) (rows 
 abbrev pub has_unique : Table → Bool
 has_unique table = list_any (λ i. i.is_unique) table.indexes
 
--- Without a UNIQUE index and a column for the rowid, rows are set as they become, whether or not they are alone.
+-- Without a UNIQUE index, and where SET leaves the rowids, rows are set as they become, whether or not they are alone.
 abbrev pub SetsAsEach : Type 0
-SetsAsEach = (table : Table) (sets : List (ℕ × Term)) (condition : Option Term) (rows : List TableRow) → has_unique table ≡ false → own_column table ≡ None → are_rows (with_rows table rows) ≡ true
+SetsAsEach = (table : Table) (sets : List (ℕ × Term)) (condition : Option Term) (rows : List TableRow) → has_unique table ≡ false → keeps_rowids table sets ≡ true → are_rows (with_rows table rows) ≡ true
     → rows_set table sets condition rows ≡ rows_set_each table sets condition rows

@@ -1,10 +1,10 @@
 -- The rows that an insertion makes, and their records.
-use Rattle.std.specs.Prelude.{◌≡◌, ℕ, true, [], Option, None, Some}
+use Rattle.std.specs.Prelude.{◌≡◌, ℕ, Bool, true, List, [], Option, None, Some}
 use Rattle.std.specs.List.{list_all}
 use Rattle.record.specs.Record.{IsRecord}
 use Rattle.tree_leaf.specs.Leaf.{Entry}
 use Rattle.tree_table.specs.declared.changing.RowChange.{RowChange}
-use Rattle.catalog.specs.Rows.{in_record, is_value}
+use Rattle.catalog.specs.Rows.{holds_rowid, in_record, is_value}
 use Rattle.catalog.specs.declared.tables.TableRow as stored
 use Rattle.row_scan.specs.Rows.{TableRow}
 use Rattle.row_change.specs.Inserting.{entry_for}
@@ -13,6 +13,10 @@ use Rattle.row_change.specs.declared.inserting.RowRecord.{RowRecord}
 -- the row that it is
 abbrev pub row_of : stored.TableRow → TableRow
 row_of new = (new.rowid, new.values.items)
+
+-- each of the rows has its rowid in the rowid's own column, if there is one
+abbrev pub all_hold : Option ℕ → List TableRow → Bool
+all_hold own rows = list_all (holds_rowid own) rows
 
 -- the entry that it is
 abbrev pub entry_in : RowRecord → Entry

@@ -1,8 +1,10 @@
 -- What UPDATE makes of the rows of a table (SQL As Understood By SQLite, "UPDATE").
-use Rattle.std.specs.Prelude.{ℕ, ℤ, pos, Bool, true, false, not, List, [], ◌∷◌, ◌++◌, map, zip, Option, Some, None, Ok, Err, if◌then◌else◌, slice_get, unwrap_or}
+use Rattle.std.specs.Prelude.{ℕ, ℤ, pos, Bool, true, false, not, ◌&&◌, ◌==◌, List, [], ◌∷◌, ◌++◌, map, zip, Option, Some, None, Ok, Err, if◌then◌else◌, slice_get, unwrap_or}
 use Rattle.std.specs.FinMap.Entries.{put, where_key}
+use Rattle.std.specs.List.{list_any}
 use Rattle.std.specs.Ordering.{eq_by_cmp, int_cmp}
 use Rattle.sqlval.specs.Refusals.{Answer, ◌then◌, RowidMismatch, all_answers}
+use Rattle.sqlval.specs.declared.affinity.Affinity.TheVariants.{Integer}
 use Rattle.sqlval.specs.declared.value.Value.{Value}
 use Rattle.sqlval.specs.declared.value.Value.TheVariants.{Null, Int}
 use Rattle.query_names.specs.Readings.{env_of, holds, values}
@@ -40,6 +42,25 @@ row_after table sets rowid row =
 -- what a row of a table becomes by SET
 abbrev pub row_set : Table → List (ℕ × Term) → TableRow → Answer TableRow
 row_set table sets row = row_after table sets row.0 (as_source row)
+
+-- the column of this place has the affinity INTEGER
+abbrev pub is_integer_at : List Column → ℕ → Bool
+is_integer_at columns place = elim (slice_get columns place) [
+  | None ↦ false
+  | Some column ↦ elim column.affinity [ Integer ↦ true | _ ↦ false ]
+]
+
+-- SET names the column of this place
+abbrev pub names_place : List (ℕ × Term) → ℕ → Bool
+names_place sets place = list_any (λ s. s.0 == place) sets
+
+-- SET leaves each row its rowid: no column is another name of the rowid, or that column has the affinity INTEGER, so that it stores the rowid as
+-- it is, and SET doesn't name it.
+abbrev pub keeps_rowids : Table → List (ℕ × Term) → Bool
+keeps_rowids table sets = elim (own_column table) [
+  | None ↦ true
+  | Some place ↦ is_integer_at table.columns place && not (names_place sets place)
+]
 
 -- the rows that are meant become what SET makes of them, and the others stay; or the first refusal
 abbrev pub rows_meant_set : Table → List (ℕ × Term) → (TableRow → Bool) → List TableRow → Answer (List TableRow)

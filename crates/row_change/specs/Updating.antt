@@ -1,5 +1,5 @@
 -- What UPDATE does to the tree of a table (SQL As Understood By SQLite, "UPDATE").
-use Rattle.std.specs.Prelude.{◌≡◌, ◌⊎◌, ℕ, List, [], ◌∷◌, ◌++◌, None, Option, Ok, Err, Result, IfOk, MatchResult, ⊤, map}
+use Rattle.std.specs.Prelude.{◌≡◌, ◌⊎◌, ℕ, true, List, [], ◌∷◌, ◌++◌, Option, Ok, Err, Result, IfOk, MatchResult, ⊤, map}
 use Rattle.std.specs.FinMap.Entries.{put}
 use Rattle.std.specs.Global.{Vec}
 use Rattle.std.specs.Ordering.{int_cmp}
@@ -11,7 +11,7 @@ use Rattle.pages.specs.Map.{PageMap}
 use Rattle.tree_page.specs.Cells.{Pairwise}
 use Rattle.tree_table.specs.Calls.{Stands, BecomesRows}
 use Rattle.tree_table.specs.Rows.{with_replaced}
-use Rattle.catalog.specs.Listed.{own_column, shape_of}
+use Rattle.catalog.specs.Listed.{shape_of}
 use Rattle.catalog.specs.declared.tables.Table.{Table}
 use Rattle.catalog.specs.declared.tables.TableRow as stored
 use Rattle.query_terms.specs.Terms.{Term}
@@ -22,7 +22,7 @@ use Rattle.row_change.specs.Meaning.{AreEnough}
 use Rattle.row_change.specs.Demands.{with_own_rowid}
 use Rattle.row_change.specs.NewRows.{row_of}
 use Rattle.row_change.specs.Trees.{FitNow}
-use Rattle.row_change.specs.Setting.{row_set, rows_changed, rows_set_each}
+use Rattle.row_change.specs.Setting.{keeps_rowids, row_set, rows_changed, rows_set_each}
 
 -- the rows with these in place of those of their rowids
 abbrev pub with_all_replaced : List Entry → List Entry → List Entry
@@ -49,11 +49,11 @@ pub record AreSetIn (old new : PageMap) (size root : ℕ) (table : Table) (sets 
 abbrev pub IsSetRefusal : Table → List (ℕ × Term) → Option Term → List TableRow → Fault → Type 0
 IsSetRefusal table sets condition rows f = IsOutsideOrFull f ⊎ (rows_set_each table sets condition rows ≡ Err (refusal_of f))
 
--- Where a tree has rows of a table without a column for its rowid, of which these are enough for the condition, those for which it is true, or
+-- Where a tree has rows of a table whose rowids SET leaves, and of which these are enough for the condition, those for which it is true, or
 -- all, become what SET makes of them, or the call is refused.
 abbrev pub SetsRows : {X : Type 0} → PageMap → PageMap → ℕ → ℕ → Table → List (ℕ × Term) → Option Term → List Row → Result X Fault → Type 0
 SetsRows old new size root table sets condition given result = (rows : List TableRow) (entries : List Entry) (used free : List ℕ)
-    → own_column table ≡ None → Stands old size root entries used free → Pairwise (IsRow (shape_of table)) entries rows → AreEnough condition given rows
+    → keeps_rowids table sets ≡ true → Stands old size root entries used free → Pairwise (IsRow (shape_of table)) entries rows → AreEnough condition given rows
     → MatchResult result (λ done. AreSetIn old new size root table sets condition rows used free) (IsSetRefusal table sets condition rows)
 
 -- Of rows of which these are enough for the condition, the rows that are answered are what those that are meant become.

@@ -12,7 +12,7 @@ ghost use Rattle.catalog.specs.Rows.{holds_rowid, is_value};
 ghost use Rattle.query_terms.specs.Outcome.{AnswersBy};
 ghost use Rattle.row_change.specs.Agreement.{InsertsRows};
 ghost use Rattle.row_change.specs.Inserting.{AllStorable, given_for, own_value, row_added, row_stored, rowid_given, with_own_value};
-ghost use Rattle.row_change.specs.NewRows.{IsReplacement, IsWritten, entry_in, entry_left, row_of};
+ghost use Rattle.row_change.specs.NewRows.{IsReplacement, IsWritten, all_hold, entry_in, entry_left, row_of};
 
 use crate::demands::check_row;
 use catalog::{Column, Table, TableRow, other_rows_are_listed};
@@ -177,29 +177,40 @@ pub(crate) fn record_for(alloc: Global, own: Option<usize>, row: &mut TableRow) 
     })
 }
 
-/// The change of the row of a rowid to this one, with its record, where no column holds the rowid.
-pub(crate) fn change_for(alloc: Global, row: &TableRow) -> R<RowChange>
-    ensures made { IfOk result (λ made. IsWritten None (row_of row.now) (entry_left made)) }
+/// The change of the row of a rowid to this one, with its record, where the row holds the rowid. (`Memory`; `TooLong`.)
+pub(crate) fn change_for(alloc: Global, own: Option<usize>, row: &mut TableRow) -> R<RowChange>
+    ensures made { IfOk result (λ made. holds_rowid own (row_of row.old) ≡ true
+        → IsWritten own (row_of row.old) (entry_left made)) }
+    ensures kept { OnOk result (holds_rowid own (row_of row.old) ≡ true → row_of row.new ≡ row_of row.old) }
     ensures some { IfOk result IsReplacement }
     ensures refused { IfErr result (λ fault. (fault ≡ Fault.Memory)
-        ⊎ ((fault ≡ Fault.TooLong) × (AreStorable (row_of row.now).1 → ⊥))) }
+        ⊎ ((fault ≡ Fault.TooLong) × (AreStorable (row_of row.old).1 → ⊥))) }
 {
-    let rowid = row.rowid;
-    let payload = Some(payload_of(alloc, &row.values)?);
+    let written = record_for(alloc, own, row)?;
+    let rowid = written.rowid;
+    let payload = Some(written.payload);
     Ok(RowChange { rowid, payload })
 }
 
-/// The changes of rows to these, with their records, where no column holds the rowid.
-pub(crate) fn changes_of(alloc: Global, rows: &[TableRow]) -> R<Vec<RowChange>>
-    ensures made { IfOk result (λ changes. Pairwise (IsWritten None) (map row_of rows.now)
-        (map entry_left changes.items)) }
+/// The changes of rows to these, with their records, where each row holds its rowid. (`Memory`; `TooLong`.)
+pub(crate) fn changes_of(
+    alloc: Global,
+    own: Option<usize>,
+    rows: &mut [TableRow],
+) -> R<Vec<RowChange>>
+    ensures made { IfOk result (λ changes. all_hold own (map row_of rows.old) ≡ true
+        → Pairwise (IsWritten own) (map row_of rows.old) (map entry_left changes.items)) }
+    ensures kept { OnOk result (all_hold own (map row_of rows.old) ≡ true
+        → map row_of rows.new ≡ map row_of rows.old) }
     ensures some { IfOk result (λ changes. AllByRecursion IsReplacement changes.items) }
-    ensures refused { IfErr result (λ fault. (fault ≡ Fault.Memory)
-        ⊎ ((fault ≡ Fault.TooLong) × (AllStorable (map row_of rows.now) → ⊥))) }
+    ensures refused { IfErr result (λ fault. all_hold own (map row_of rows.old) ≡ true
+        → (fault ≡ Fault.Memory)
+        ⊎ ((fault ≡ Fault.TooLong) × (AllStorable (map row_of rows.old) → ⊥))) }
+    ensures not_disk { IfErr result (λ fault. IsNotDiskFault fault) }
 {
     let mut changes = Vec::new(alloc);
-    'rows: for row in rows {
-        changes.push(change_for(alloc, row)?)?;
+    'rows: for index in 0..rows.len() {
+        changes.push(change_for(alloc, own, &mut rows[index])?)?;
     }
     Ok(changes)
 }

@@ -19,10 +19,11 @@ pub use deleting::delete_takes_its_rows;
 pub use inserting::insert_adds_its_rows;
 pub use meaning::{meant_places, meant_rows, row_copy};
 pub use putting::put_new_row;
+pub use setting::keeps_rowids;
 pub use taking::take_rows;
 pub use updating::{set_new_rows, set_row, update_sets_its_rows};
 
-/// Without a UNIQUE index and a column for the rowid, rows are set as they become.
+/// Without a UNIQUE index, and where SET leaves the rowids, rows are set as they become.
 pub fn rows_without_keys_are_free()
     ensures { SetsAsEach }
 {}

@@ -9,13 +9,14 @@ ghost use Rattle.query_terms.specs.Outcome.{AnswersBy};
 ghost use Rattle.query_terms.specs.Rows.{picked_rows, row_at, seen};
 ghost use Rattle.row_change.specs.Constraints.{with_affinity};
 ghost use Rattle.row_change.specs.NewRows.{row_of};
+ghost use Rattle.row_change.specs.Setting as law;
 ghost use Rattle.row_change.specs.Setting.{is_meant_for, rowid_left, rowid_number, rows_changed, rows_meant, set_over, source_set};
 
 use crate::demands::check_row;
 use crate::inserting::stored_value;
 use catalog::{Column, Table, TableRow};
 use query_terms::{Env, SourceRow, Term, evaluate, holds};
-use sqlval::{Fault, Many, R, Value};
+use sqlval::{Affinity, Fault, Many, R, Value};
 use std::alloc::Global;
 use std::array::from_ref;
 
@@ -153,6 +154,35 @@ fn rowid_now(values: &[Value], own: Option<usize>, rowid: i64) -> R<i64>
     match values.get(place) {
         Some(Value::Int(now)) => Ok(*now),
         _ => Err(Fault::RowidMismatch),
+    }
+}
+
+/// Whether the column of a place has the affinity INTEGER.
+fn is_integer_at(columns: &[Column], place: usize) -> bool
+    ensures { result ≡ law.is_integer_at columns.now place }
+{
+    match columns.get(place) {
+        Some(column) => matches!(column.affinity, Affinity::Integer),
+        None => false,
+    }
+}
+
+/// Whether SET names the column of a place.
+fn names_place(sets: &[(usize, Term)], place: usize) -> bool
+    ensures { result ≡ law.names_place sets.now place }
+{
+    sets.iter().any(|set| set.0 == place)
+}
+
+/// Whether SET leaves each row its rowid: no column is another name of the rowid, or SET doesn't name it, and it has the affinity INTEGER.
+pub fn keeps_rowids(table: &Table, sets: &[(usize, Term)]) -> bool
+    ensures { result ≡ law.keeps_rowids table.now sets.now }
+{
+    match table.own_column() {
+        Some(place) => {
+            is_integer_at(table.columns.as_slice(), place) && !names_place(sets, place)
+        }
+        None => true,
     }
 }
 

@@ -25,9 +25,9 @@ pub fn update_sets_its_rows()
 }
 
 /// Sets values in the rows of a table's tree for which a condition is true, or in all where there is none, and answers what these rows have
-/// become, where no column holds the rowid. The rows given are enough of the table's for the condition. They are chosen before the first is set.
-/// (What the condition, SET's expressions, `check_row` and `change_rows` refuse, and a real; only what `change_rows` refuses leaves rows that are
-/// set.)
+/// become, where SET leaves the rowids (`keeps_rowids`). The rows given are enough of the table's for the condition. They are chosen before the
+/// first is set. (What the condition, SET's expressions, `check_row` and `change_rows` refuse, and a real; only what `change_rows` refuses leaves
+/// rows that are set.)
 pub fn set_new_rows<P: WritePages>(
     alloc: Global,
     pages: &mut P,
@@ -45,8 +45,8 @@ pub fn set_new_rows<P: WritePages>(
     ensures causes { Causes result (P.Pages.failures pages.old) (P.Pages.failures pages.new)
         (P.Pages.count pages.new ≡ (P.Pages.limits (P.Pages.below pages.new)).most) }
 {
-    let new = changed_rows(alloc, table, sets, rows, condition)?;
-    let changes = changes_of(alloc, &new)?;
+    let mut new = changed_rows(alloc, table, sets, rows, condition)?;
+    let changes = changes_of(alloc, table.own_column(), &mut new)?;
     change_rows(alloc, pages, table.root, &changes)?;
     Ok(new)
 }

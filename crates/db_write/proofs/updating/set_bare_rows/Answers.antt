@@ -23,7 +23,7 @@ returns-in_err-set_new_rows-clause-updated g c = λ told.
     let stays = c.in_ok-rows.ensures.stays in
     let sets_so = after_reading pages.below pages.tells pages.limits pages.map c.args.pages.now c.enough_rows.new.pages
     (λ (m : PageMap) (n : ℕ). SetsRows {X = ⊤} m new n table.root table c.args.sets.now c.args.condition.now rows (Err fault)) stays.kept stays.same c.in_err-set_new_rows.ensures.set told in
-    none_set old new (pages.limits (pages.below c.args.pages.now)).page table c.args.condition.now c.args.sets.now c.rows_without_keys_are_free.ensures (bare_plain table c.requires.bare) c.requires.no_own rows (c.in_ok-rows.ensures.loaded told)
+    none_set old new (pages.limits (pages.below c.args.pages.now)).page table c.args.condition.now c.args.sets.now c.rows_without_keys_are_free.ensures (bare_plain table c.requires.bare) c.requires.kept rows (c.in_ok-rows.ensures.loaded told)
     fault c.from_residual-in_err-set_new_rows.result c.from_residual-in_err-set_new_rows.ensures.1 sets_so)
 
 pub returns-clause-updated : goal.returns-clause-updated
@@ -36,4 +36,4 @@ returns-clause-updated g c = λ told.
     let stays = c.in_ok-rows.ensures.stays in
     let sets_so = after_reading pages.below pages.tells pages.limits pages.map c.args.pages.now c.enough_rows.new.pages
     (λ (m : PageMap) (n : ℕ). SetsRows {X = ⊤} m new n table.root table c.args.sets.now c.args.condition.now rows (Ok tt)) stays.kept stays.same c.in_ok-set_new_rows.ensures.set told in
-    bare_set old new (pages.limits (pages.below c.args.pages.now)).page table c.args.condition.now c.args.sets.now c.rows_without_keys_are_free.ensures (bare_plain table c.requires.bare) c.requires.no_own rows (c.in_ok-rows.ensures.loaded told) c.requires.bare sets_so)
+    bare_set old new (pages.limits (pages.below c.args.pages.now)).page table c.args.condition.now c.args.sets.now c.rows_without_keys_are_free.ensures (bare_plain table c.requires.bare) c.requires.kept rows (c.in_ok-rows.ensures.loaded told) c.requires.bare sets_so)

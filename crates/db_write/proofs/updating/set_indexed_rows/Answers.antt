@@ -33,7 +33,7 @@ returns-in_err-new-clause-updated g c = λ told.
     let stays = c.in_ok-rows.ensures.stays in
     let sets_so = after_reading pages.below pages.tells pages.limits pages.map c.args.pages.now c.enough_rows.new.pages
     (λ (m : PageMap) (n : ℕ). SetsRows {X = ⊤} m new n table.root table c.args.sets.now c.args.condition.now rows (Err fault)) stays.kept stays.same c.in_err-new.ensures.set told in
-    none_set old new (pages.limits (pages.below c.args.pages.now)).page table c.args.condition.now c.args.sets.now c.rows_without_keys_are_free.ensures c.requires.plain c.requires.no_own rows (c.in_ok-rows.ensures.loaded told)
+    none_set old new (pages.limits (pages.below c.args.pages.now)).page table c.args.condition.now c.args.sets.now c.rows_without_keys_are_free.ensures c.requires.plain c.requires.kept rows (c.in_ok-rows.ensures.loaded told)
     fault c.from_residual-in_err-new.result c.from_residual-in_err-new.ensures.1 sets_so)
 
 pub returns-clause-updated : goal.returns-clause-updated
@@ -52,7 +52,7 @@ returns-clause-updated g c = λ told.
     (λ (m : PageMap) (n : ℕ). SetsRows {X = ⊤} m (pages.map mid) n table.root table c.args.sets.now c.args.condition.now rows (Ok tt)) stays.kept stays.same c.in_ok-new.ensures.set told in
     let replaces = since pages.below pages.tells pages.limits start mid (λ (n : ℕ). ReplacesInIndexes (pages.map mid) new n c.as_slice.result.now (map row_in c.deref.result.now) (map row_in c.deref-2.result.now) result)
     (c.in_ok-new.ensures.kept ∙ stays.kept) c.replace_in_indexes.ensures.replaced told in
-    indexed_set old (pages.map mid) size table c.args.condition.now c.args.sets.now c.rows_without_keys_are_free.ensures c.requires.plain c.requires.no_own rows (c.in_ok-rows.ensures.loaded told) c.in_ok-gone.gone c.in_ok-new.new
+    indexed_set old (pages.map mid) size table c.args.condition.now c.args.sets.now c.rows_without_keys_are_free.ensures c.requires.plain c.requires.kept rows (c.in_ok-rows.ensures.loaded told) c.in_ok-gone.gone c.in_ok-new.new
     c.in_ok-gone.ensures.found sets_so c.in_ok-new.ensures.rows new result
     (subst (λ (them : List Index). ReplacesInIndexes (pages.map mid) new size them (map row_in c.in_ok-gone.gone.items) (map row_in c.in_ok-new.new.items) result) c.as_slice.ensures
     (subst (λ (come : List TableRow). ReplacesInIndexes (pages.map mid) new size c.as_slice.result.now (map row_in c.in_ok-gone.gone.items) (map row_in come) result) c.deref-2.ensures.value

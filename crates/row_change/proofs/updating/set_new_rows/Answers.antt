@@ -1,9 +1,14 @@
-use Rattle.std.proofs.Common.{None, map, subst, Ok, Err}
+use Rattle.std.proofs.Common.{◌≡◌, ◌⊎◌, ◌∙◌, ap, List, map, subst, true, Ok, Err}
+use Rattle.sqlval.specs.declared.fault.Fault.TheVariants.{Memory, TooLong}
 use Rattle.tree_page.specs.Cells.{Pairwise}
 use Rattle.tree_table.specs.Calls.{ChangesRows}
-use Rattle.row_change.specs.NewRows.{IsWritten, entry_left, row_of}
+use Rattle.catalog.specs.Listed.{own_column}
+use Rattle.catalog.specs.declared.tables.TableRow as stored
+use Rattle.row_change.specs.Inserting.{AllStorable}
+use Rattle.row_change.specs.NewRows.{IsWritten, all_hold, entry_left, row_of}
+use Rattle.row_change.proofs.Records.{all_at_own, written_back}
 use Rattle.row_change.proofs.Replaced.{as_replaced}
-use Rattle.row_change.proofs.SetTrees.{none_changed, none_stored, none_told, passed_on, rows_replaced, told_changed}
+use Rattle.row_change.proofs.SetTrees.{changed_hold, none_changed, none_stored, none_told, passed_on, rows_replaced, told_changed}
 use Rattle.row_change.proofs.updating.set_new_rows.Goals as goal
 
 pub returns-in_err-new-clause-set : goal.returns-in_err-new-clause-set
@@ -19,9 +24,14 @@ returns-in_err-changes-clause-set g c = λ told.
     (let pages = g.P.Pages in
     let table = c.args.table.now in
     let old = pages.map c.args.pages.now in
+    let own = c.own_column.result in
+    let fault = c.in_err-changes.field-0.0 in
+    let given = map row_of c.in_ok-new.new.items in
+    let holds = changed_hold table c.args.sets.now c.args.condition.now c.args.rows.now given c.in_ok-new.ensures.changed in
+    let why = all_at_own (λ own. (fault ≡ Memory) ⊎ ((fault ≡ TooLong) × (AllStorable given → ⊥))) own (own_column table) given c.own_column.ensures
+    (subst (λ (them : List stored.TableRow). all_hold own (map row_of them) ≡ true → (fault ≡ Memory) ⊎ ((fault ≡ TooLong) × (AllStorable (map row_of them) → ⊥))) c.deref_mut.ensures.value c.in_err-changes.ensures.refused) holds in
     none_stored table c.args.sets.now c.args.condition.now old old (pages.limits (pages.below c.args.pages.now)).page table.root c.args.rows.now
-    (map row_of c.in_ok-new.new.items) c.in_ok-new.ensures.changed
-    c.in_err-changes.field-0.0 c.from_residual-in_err-changes.result c.from_residual-in_err-changes.ensures.1 (rw (c.deref.ensures.value) at c.in_err-changes.ensures.refused))
+    given c.in_ok-new.ensures.changed fault c.from_residual-in_err-changes.result c.from_residual-in_err-changes.ensures.1 why)
 
 pub returns-in_err-change_rows-clause-set : goal.returns-in_err-change_rows-clause-set
 returns-in_err-change_rows-clause-set g c = λ told.
@@ -30,13 +40,16 @@ returns-in_err-change_rows-clause-set g c = λ told.
     let old = pages.map c.args.pages.now in
     let new = pages.map c.change_rows.new.pages in
     let size = (pages.limits (pages.below c.args.pages.now)).page in
+    let own = c.own_column.result in
     let changes = c.in_ok-changes.changes.items in
     let fault = c.in_err-change_rows.field-0.0 in
-    let written : Pairwise (IsWritten None) (map row_of c.in_ok-new.new.items) (map entry_left changes) = rw (c.deref.ensures.value) at c.in_ok-changes.ensures.made in
-    let changed = subst (λ them. ChangesRows old new size table.root them (Err fault)) c.deref-2.ensures.value (c.in_err-change_rows.ensures.changed told) in
+    let given = map row_of c.in_ok-new.new.items in
+    let holds = changed_hold table c.args.sets.now c.args.condition.now c.args.rows.now given c.in_ok-new.ensures.changed in
+    let written = all_at_own (λ own. Pairwise (IsWritten own) given (map entry_left changes)) own (own_column table) given c.own_column.ensures
+    (subst (λ (them : List stored.TableRow). all_hold own (map row_of them) ≡ true → Pairwise (IsWritten own) (map row_of them) (map entry_left changes)) c.deref_mut.ensures.value c.in_ok-changes.ensures.made) holds in
+    let changed = subst (λ them. ChangesRows old new size table.root them (Err fault)) c.deref.ensures.value (c.in_err-change_rows.ensures.changed told) in
     passed_on table c.args.sets.now c.args.condition.now old new size table.root c.args.rows.now fault c.from_residual-in_err-change_rows.result c.from_residual-in_err-change_rows.ensures.1
-    (rows_replaced table c.args.sets.now c.args.condition.now old new size table.root c.args.rows.now
-    (map row_of c.in_ok-new.new.items) c.in_ok-new.ensures.changed
+    (rows_replaced table c.args.sets.now c.args.condition.now old new size table.root c.args.rows.now given c.in_ok-new.ensures.changed
     (map entry_left changes) (Err fault) written (as_replaced old new size table.root changes (Err fault) c.in_ok-changes.ensures.some changed)))
 
 pub returns-clause-set : goal.returns-clause-set
@@ -46,16 +59,26 @@ returns-clause-set g c = λ told.
     let old = pages.map c.args.pages.now in
     let new = pages.map c.change_rows.new.pages in
     let size = (pages.limits (pages.below c.args.pages.now)).page in
+    let own = c.own_column.result in
     let changes = c.in_ok-changes.changes.items in
-    let written : Pairwise (IsWritten None) (map row_of c.in_ok-new.new.items) (map entry_left changes) = rw (c.deref.ensures.value) at c.in_ok-changes.ensures.made in
-    let changed = subst (λ them. ChangesRows old new size table.root them (Ok tt)) c.deref-2.ensures.value (c.in_ok-change_rows.ensures.changed told) in
-    rows_replaced table c.args.sets.now c.args.condition.now old new size table.root c.args.rows.now
-    (map row_of c.in_ok-new.new.items) c.in_ok-new.ensures.changed
+    let given = map row_of c.in_ok-new.new.items in
+    let holds = changed_hold table c.args.sets.now c.args.condition.now c.args.rows.now given c.in_ok-new.ensures.changed in
+    let written = all_at_own (λ own. Pairwise (IsWritten own) given (map entry_left changes)) own (own_column table) given c.own_column.ensures
+    (subst (λ (them : List stored.TableRow). all_hold own (map row_of them) ≡ true → Pairwise (IsWritten own) (map row_of them) (map entry_left changes)) c.deref_mut.ensures.value c.in_ok-changes.ensures.made) holds in
+    let changed = subst (λ them. ChangesRows old new size table.root them (Ok tt)) c.deref.ensures.value (c.in_ok-change_rows.ensures.changed told) in
+    rows_replaced table c.args.sets.now c.args.condition.now old new size table.root c.args.rows.now given c.in_ok-new.ensures.changed
     (map entry_left changes) (Ok tt) written (as_replaced old new size table.root changes (Ok tt) c.in_ok-changes.ensures.some changed))
 
 pub returns-clause-rows : goal.returns-clause-rows
 returns-clause-rows g c =
-    told_changed c.args.table.now c.args.sets.now c.args.condition.now c.args.rows.now c.in_ok-new.new c.in_ok-new.ensures.changed
+    let table = c.args.table.now in
+    let own = c.own_column.result in
+    let given = map row_of c.in_ok-new.new.items in
+    let holds = changed_hold table c.args.sets.now c.args.condition.now c.args.rows.now given c.in_ok-new.ensures.changed in
+    let same = all_at_own (λ own. map row_of c.changes_of.new.rows ≡ given) own (own_column table) given c.own_column.ensures
+    (subst (λ (them : List stored.TableRow). all_hold own (map row_of them) ≡ true → map row_of c.changes_of.new.rows ≡ map row_of them) c.deref_mut.ensures.value c.in_ok-changes.ensures.kept) holds in
+    let back = written_back c.in_ok-new.new.len c.changes_of.new.rows c.in_ok-new.new.items (c.changes_of.auto.rows ∙ c.deref_mut.ensures.len) in
+    told_changed table c.args.sets.now c.args.condition.now c.args.rows.now given _ c.in_ok-new.ensures.changed (ap (map row_of) back ∙ same)
 
 pub returns-in_err-new-clause-rows : goal.returns-in_err-new-clause-rows
 returns-in_err-new-clause-rows g c =
