@@ -3,6 +3,8 @@ mod Clashing
 mod Deleted
 mod Dropped
 mod Indexed
+mod KeptAlone
+mod LookedAt
 mod InsertedRows
 pub mod Looping
 pub mod Needed

@@ -183,10 +183,10 @@ are_words table rows fit =
 -- ---- what is read
 
 module _ (pages : PageMap) (size : ℕ) (table : Table) where
-  abbrev source : BoundSource
+  abbrev pub source : BoundSource
   source = record { root = table.root; shape = shape_of table }
 
-  has_indexed : (schema : Owner) (before : List Owner) (rows : List TableRow) (after : List Owner) → RowsStand pages size schema before table rows after → are_rows (with_rows table rows) ≡ true
+  pub has_indexed : (schema : Owner) (before : List Owner) (rows : List TableRow) (after : List Owner) → RowsStand pages size schema before table rows after → are_rows (with_rows table rows) ≡ true
       → HasIndexed pages size source table.indexes rows
   has_indexed schema before rows after s fit = record {
     whole = s.stands.free_are.whole;

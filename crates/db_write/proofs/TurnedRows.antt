@@ -141,12 +141,12 @@ module _ (old : PageMap) (size : ℕ) (table : Table) (sets : List (ℕ × Term)
 
 -- ---- a row among others
 
-record Split (row : TableRow) (rows : List TableRow) : Type 0 where
-  front : List TableRow
-  back : List TableRow
-  are : front ++ row ∷ back ≡ rows
+pub record Split (row : TableRow) (rows : List TableRow) : Type 0 where
+  pub front : List TableRow
+  pub back : List TableRow
+  pub are : front ++ row ∷ back ≡ rows
 
-split_at : (row : TableRow) (rows : List TableRow) → IsOneOf row rows → Split row rows
+pub split_at : (row : TableRow) (rows : List TableRow) → IsOneOf row rows → Split row rows
 split_at row [] one = absurd one
 split_at row (other ∷ rows) (inl is) = record { front = []; back = rows; are = ap (λ (r : TableRow). r ∷ rows) is }
 split_at row (other ∷ rows) (inr later) = (let s = split_at row rows later in record { front = other ∷ s.front; back = s.back; are = ap (λ (rs : List TableRow). other ∷ rs) s.are })
@@ -268,7 +268,7 @@ none_sourced rows left few = ap (map (row_at rows)) (none_left left few)
 
 -- ---- all of a statement
 
-in_filter : (p : TableRow → Bool) (rows : List TableRow) → AllByRecursion (λ row. IsOneOf row rows) (filter p rows)
+pub in_filter : (p : TableRow → Bool) (rows : List TableRow) → AllByRecursion (λ row. IsOneOf row rows) (filter p rows)
 in_filter p [] = tt
 in_filter p (row ∷ rows) = by (p row) (further (filter p rows) (in_filter p rows))
   where

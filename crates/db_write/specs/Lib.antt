@@ -1,4 +1,5 @@
 pub mod Turning
 pub mod Reading
 pub mod Changing
+pub mod Kept
 pub mod OneRow

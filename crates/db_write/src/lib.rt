@@ -1,6 +1,7 @@
 //! The rows of a table and the entries of its indexes, changed together among all trees of a file.
 #![tactic(auto)]
 
+mod alone;
 mod deleting;
 mod dropping;
 mod entries;

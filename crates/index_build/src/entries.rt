@@ -1,6 +1,6 @@
 //! The entries of an index, read from its table's rows.
 
-ghost use Rattle.std.specs.Prelude.{◌≡◌, IsTrue, IfOk, IfErr, OnOk, map, slice_get, unwrap_or};
+ghost use Rattle.std.specs.Prelude.{◌≡◌, IsTrue, IfOk, IfErr, OnOk, map, slice_get, slice_index_or, unwrap_or};
 ghost use Rattle.sqlval.specs.Lists.{sorted};
 ghost use Rattle.sqlval.specs.Order.{order};
 ghost use Rattle.sqlval.specs.declared.value.Value.TheVariants.{Null};
@@ -10,7 +10,6 @@ ghost use Rattle.index_build.specs.Calls.{SortsEntries};
 ghost use Rattle.index_build.specs.Ranking.{indexed_of, ranked, value_or_null};
 
 use catalog::IndexColumn;
-use index_entries::key_of;
 use pages::Pages;
 use query_names::BoundSource;
 use query_terms::SourceRow;
@@ -29,14 +28,24 @@ pub(crate) fn value_in(values: &[Value], place: usize) -> Field<'_>
     }
 }
 
-/// The rowid of a row as a value.
-fn rowid_in(row: &SourceRow) -> Value
-    ensures { result ≡ row.now.rowid }
+/// The value of a row's column, NULL past the last.
+fn column_of(row: &SourceRow, place: usize) -> Field<'_>
+    ensures { value_of result ≡ slice_index_or row.now.values place Null }
 {
-    match row.rowid() {
-        Some(rowid) => Value::Int(rowid),
-        None => Value::Null,
+    row.column(place)
+}
+
+/// The values of the indexed columns of a row. (`Memory`.)
+fn key_of(alloc: Global, row: &SourceRow, columns: &[IndexColumn]) -> R<Vec<Value>>
+    ensures key { IfOk result (λ key. key.items ≡ map
+        (λ column. slice_index_or row.now.values column.place Null) columns.now) }
+    ensures refused { IfErr result (λ fault. fault ≡ Fault.Memory) }
+{
+    let mut key = Vec::with_capacity(alloc, columns.len().saturating_add(1))?;
+    'columns: for column in columns {
+        key.push(column_of(row, column.place).to_value(alloc)?)?;
     }
+    Ok(key)
 }
 
 /// The entry of a row: the values of the indexed columns, then the rowid. (`Memory`.)
@@ -44,9 +53,8 @@ fn entry_of(alloc: Global, row: &SourceRow, columns: &[IndexColumn]) -> R<Many<V
     ensures is { IfOk result (λ entry. entry ≡ indexed_of columns.now row.now) }
     ensures refused { IfErr result (λ fault. fault ≡ Fault.Memory) }
 {
-    let values = row.values(alloc)?;
-    let mut entry = key_of(alloc, columns, values.as_slice())?;
-    entry.push(rowid_in(row))?;
+    let mut entry = key_of(alloc, row, columns)?;
+    entry.push(row.rowid_field().to_value(alloc)?)?;
     Ok(Many::from_vec(entry))
 }
 

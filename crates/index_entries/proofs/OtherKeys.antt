@@ -1,5 +1,5 @@
 -- Another row's key is seen by the first entries from the key on.
-use Rattle.std.proofs.Common.{◌≡◌, refl, sym, ap, ◌∙◌, ℕ, zero, suc, Bool, true, false, not, cond, ◌&&◌, ◌||◌, List, [], ◌∷◌, length, take, if◌then◌else◌}
+use Rattle.std.proofs.Common.{◌≡◌, refl, sym, ap, ◌∙◌, ℕ, zero, suc, ◌+◌, Bool, true, false, not, cond, ◌&&◌, ◌||◌, List, [], ◌∷◌, length, take, if◌then◌else◌}
 use mathlib.Core.Bool.{true≢false}
 use Rattle.std.specs.List.{AllByRecursion}
 use Rattle.std.specs.Ordering.{is_eq, is_gt, is_lt, ordering_reverse, ordering_then}
@@ -12,7 +12,7 @@ use Rattle.sqlval.specs.declared.value.Value.{Value}
 use Rattle.sqlval.proofs.Ordering.{alike_is_equal}
 use Rattle.tree_index.specs.Entries.{AreEntries, Entry, entries_from, entry_cmp, has_entry, key_in, keys_of, with_entry}
 use Rattle.tree_index.proofs.Inserts.{first_decide, gt_not_eq, lt_not_eq, neither_lt}
-use Rattle.tree_index.proofs.Orders.{after_one, not_less, not_less_first}
+use Rattle.tree_index.proofs.Orders.{after_equal, after_one, greater_first, not_less, not_less_first}
 use Rattle.index_entries.specs.Others.{begins_with}
 
 -- ---- tests
@@ -141,3 +141,33 @@ module _ (cs : List Collation) (x : Entry) where
     by more false up =
         let down = isnt (is_lt (cmp x y)) (neither_lt (cmp x y) up tests.0) in
         behind down (is_eq (cmp key y)) refl ∙ sym (own_first (y ∷ ys) ∙ ap (begins_with cs key) (stays_after y ys down))
+
+  on_all : (es : List Entry) → AllByRecursion (λ (e : Entry). is_gt (cmp key e) ≡ false) es → on es ≡ es
+  on_all [] all = refl
+  on_all (e ∷ es) all = stays_on e es all.0 ∙ ap (λ (l : List Entry). e ∷ l) (on_all es all.1)
+
+  after_all : (es : List Entry) → AllByRecursion (λ (e : Entry). not_less cs x e ≡ false) es → after es ≡ es
+  after_all [] all = refl
+  after_all (e ∷ es) all = stays_after e es (isnt (is_lt (cmp x e)) all.0) ∙ ap (λ (l : List Entry). e ∷ l) (after_all es all.1)
+
+  -- where the entry is the first from its key on, those after it are the others
+  pub next_after : (es : List Entry) → AreEntries cs es → length x ≡ length cs + 1 → (first : Entry) (rest : List Entry) → on es ≡ first ∷ rest → is_eq (cmp x first) ≡ true → after es ≡ rest
+  next_after [] are long first rest split same = absurd (not_cons split) where
+    not_cons : ◌≡◌ {A = List Entry} [] (first ∷ rest) → ⊥
+    not_cons e = cc
+  next_after (y ∷ ys) are long first rest split same = by (λ more. next_after ys (rest_are cs y ys are) long first rest more same) (is_gt (cmp key y)) refl where
+    head_is : (a b : Entry) (es fs : List Entry) → ◌≡◌ {A = List Entry} (a ∷ es) (b ∷ fs) → a ≡ b
+    head_is a b es fs e = cc
+
+    tail_is : (a b : Entry) (es fs : List Entry) → ◌≡◌ {A = List Entry} (a ∷ es) (b ∷ fs) → es ≡ fs
+    tail_is a b es fs e = cc
+
+    by : (on ys ≡ first ∷ rest → after ys ≡ rest) → (b : Bool) → is_gt (cmp key y) ≡ b → after (y ∷ ys) ≡ rest
+    by more true up =
+        let over = ap is_gt (decides y (gt_not_eq (cmp key y) up)) ∙ up in
+        goes_after y ys (gt_not_lt (cmp x y) over) ∙ more (sym (goes_on y ys up) ∙ split)
+    by more false up =
+        let all = (greater_first cs key (y ∷ ys) are).0 up in
+        let is : y ∷ ys ≡ first ∷ rest = ap (λ (l : List Entry). y ∷ l) (sym (on_all ys all)) ∙ sym (stays_on y ys up) ∙ split in
+        let equal : is_eq (cmp x y) ≡ true = ap (λ (e : Entry). is_eq (cmp x e)) (head_is y first ys rest is) ∙ same in
+        goes_after y ys (eq_not_lt (cmp x y) equal) ∙ after_all ys (after_equal cs x long y ys are equal) ∙ tail_is y first ys rest is

@@ -154,41 +154,6 @@ module _ (old mid new : PageMap) (size root : ℕ) (columns : Columns) (before m
   then_turns (Err f) first next used free stands = (let was = first used free stands in next was.now_used was.now_free was.stands)
 
 module _ (size root : ℕ) (columns : Columns) where
-  -- rows that are added
-  pub adds_none : (pages : PageMap) → AddsEntries pages pages size root columns [] (Ok tt)
-  adds_none pages rows apart =
-      subst (λ (rs : List Row). Turns pages pages size root columns rows rs (IsAddRefusal columns []) (Ok tt)) (sym (append-nil rows)) (stays pages size root columns rows (IsAddRefusal columns []))
-
-  pub adds_more : (old mid new : PageMap) (row : Row) (rest : List Row) (result : Result ⊤ Fault) → AddsEntries old mid size root columns (row ∷ []) (Ok tt)
-      → AddsEntries mid new size root columns rest result → AddsEntries old new size root columns (row ∷ rest) result
-  adds_more old mid new row rest result first next rows apart =
-      let assoc : (rows ++ row ∷ []) ++ rest ≡ rows ++ row ∷ rest = append_assoc rows (row ∷ []) rest in
-      let apart_all = subst AreApart (sym assoc) apart in
-      let one = first rows (apart_front (rows ++ row ∷ []) rest apart_all) in
-      let more = next (rows ++ row ∷ []) apart_all in
-      widened result (subst (λ (rs : List Row). Turns old new size root columns rows rs (IsAddRefusal columns rest) result) assoc
-      (then_turns old mid new size root columns rows (rows ++ row ∷ []) ((rows ++ row ∷ []) ++ rest) (IsAddRefusal columns (row ∷ [])) (IsAddRefusal columns rest) result one more))
-    where
-      wider : (f : Fault) → IsAddRefusal columns rest f → IsAddRefusal columns (row ∷ rest) f
-      wider f (inl tree) = inl tree
-      wider f (inr long) = inr (long.0, λ all. long.1 all.1)
-
-      widened : (result : Result ⊤ Fault) → Turns old new size root columns rows (rows ++ row ∷ rest) (IsAddRefusal columns rest) result
-          → Turns old new size root columns rows (rows ++ row ∷ rest) (IsAddRefusal columns (row ∷ rest)) result
-      widened (Ok done) turns = turns
-      widened (Err f) turns = λ used free stands. wider f (turns used free stands)
-
-  pub adds_stop : (old new : PageMap) (row : Row) (rest : List Row) (fault : Fault) (result : Result ⊤ Fault) → IsErrAnd result (λ e. e ≡ fault)
-      → AddsEntries old new size root columns (row ∷ []) (Err fault) → AddsEntries old new size root columns (row ∷ rest) result
-  adds_stop old new row rest fault (Ok done) same first = absurd same
-  adds_stop old new row rest fault (Err e) same first = λ rows apart used free stands.
-      subst (λ (f : Fault). IsAddRefusal columns (row ∷ rest) f) (sym same)
-      (wider (first rows (apart_front (rows ++ row ∷ []) rest (subst AreApart (sym (append_assoc rows (row ∷ []) rest)) apart)) used free stands))
-    where
-      wider : IsAddRefusal columns (row ∷ []) fault → IsAddRefusal columns (row ∷ rest) fault
-      wider (inl tree) = inl tree
-      wider (inr long) = inr (long.0, λ all. long.1 (all.0, tt))
-
   -- rows that are taken out
   pub takes_none : (pages : PageMap) → TakesEntries pages pages size root columns [] (Ok tt)
   takes_none pages rows apart =

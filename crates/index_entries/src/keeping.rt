@@ -82,32 +82,6 @@ pub fn add_row<P: WritePages>(
     add_entry(alloc, pages, root, columns, &under, row)
 }
 
-/// Puts the entries of rows that come to a table into the tree of one of its indexes. (`Memory`, `Io`, `Full`; `TooLong` if no record
-/// can hold an entry. Then some entries may be in.)
-pub fn add_entries<P: WritePages>(
-    alloc: Global,
-    pages: &mut P,
-    root: u32,
-    columns: &[IndexColumn],
-    rows: &[TableRow],
-) -> R<()>
-    ensures added { IsTrue (P.Pages.tells (P.Pages.below pages.old))
-        → AddsEntries (P.Pages.map pages.old) (P.Pages.map pages.new)
-        (P.Pages.limits (P.Pages.below pages.old)).page
-        root (columns_in columns.now) (map row_in rows.now) result }
-    ensures kept { P.Pages.below pages.new ≡ P.Pages.below pages.old }
-    ensures causes { Causes result (P.Pages.failures pages.old) (P.Pages.failures pages.new)
-        (P.Pages.count pages.new ≡ (P.Pages.limits (P.Pages.below pages.new)).most) }
-{
-    let under = collations_of(alloc, columns)?;
-    let mut left = rows;
-    'rows: while let [row, rest @ ..] = left {
-        add_entry(alloc, pages, root, columns, &under, row)?;
-        left = rest;
-    }
-    Ok(())
-}
-
 /// Takes the entries of rows that go from a table out of the tree of one of its indexes. (`Memory`, `Io`, `Full`. Then some entries may be
 /// out.)
 pub fn take_entries<P: WritePages>(

@@ -10,6 +10,7 @@ mod replacements;
 
 pub use alone::{add_alone, replace_alone};
 pub use columns::{collations_of, key_of};
-pub use keeping::{add_entries, add_row, take_entries};
+pub use keeping::{add_row, take_entries};
 pub use laws::{entries_follow_rows, entries_have_keys};
+pub use others::is_alone;
 pub use replacements::{replace_entries, replace_row};

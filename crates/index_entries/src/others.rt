@@ -1,7 +1,15 @@
 //! Whether another row of a table has a row's key.
 
-ghost use Rattle.std.specs.Prelude.{◌≡◌, map, IsTrue};
+ghost use Rattle.std.specs.Prelude.{◌≡◌, ◌++◌, [], List, ℕ, map, true, IsTrue, IfErr, MatchResult};
+ghost use Rattle.std.specs.Ordering.{is_eq};
+ghost use Rattle.sqlval.specs.Faults.{IsNotDiskFault, IsOrMemory, IsOutside};
+ghost use Rattle.sqlval.specs.declared.value.Value.{Value as ValueIs};
+ghost use Rattle.record.specs.Record.{IsRecord};
 ghost use Rattle.pages.specs.Calls.{Stays};
+ghost use Rattle.pages.specs.Map.{AreWhole};
+ghost use Rattle.tree_page.specs.Cells.{Pairwise};
+ghost use Rattle.tree_index.specs.Entries.{Entry, entries_from, entry_cmp};
+ghost use Rattle.tree_index.specs.Tree.{IsIndexTree};
 ghost use Rattle.index_entries.specs.Keeping.{columns_in, row_in};
 ghost use Rattle.index_entries.specs.Others.{FindsAlone, FindsNext};
 
@@ -14,29 +22,13 @@ use sqlval::{Collation, R, Value};
 use std::alloc::Global;
 use tree_index::{Cursor, Key, compare_entry};
 
-/// Whether the first entry from a key on, or, if `after`, after those that begin with it, equals another key. (What `Cursor::next_batch` and
-/// `Record::over` refuse.)
-fn is_next<P: Pages>(
-    alloc: Global,
-    pages: &mut P,
-    root: u32,
-    under: &[Collation],
-    from: Vec<Value>,
-    after: bool,
-    values: &[Value],
-) -> R<bool>
-    ensures found { IsTrue (P.Pages.tells (P.Pages.below pages.old))
-        → FindsNext (P.Pages.map pages.old) (P.Pages.limits (P.Pages.below pages.old)).page root
-        under.now from.items after values.now result }
-    ensures stays { Stays P.Pages.below P.Pages.map P.Pages.count P.Pages.failures result pages.old pages.new }
+/// Whether the entry of a record equals a key. (What `Record::over` refuses.)
+fn is_entry(alloc: Global, under: &[Collation], bytes: &[u8], values: &[Value]) -> R<bool>
+    ensures only { (entry : List ValueIs) → IsRecord bytes.now entry
+        → IsOrMemory (λ same. same ≡ is_eq (entry_cmp under.now values.now entry)) result }
+    ensures not_disk { IfErr result IsNotDiskFault }
 {
-    let mut batch = Vec::new(alloc);
-    let mut cursor = Cursor::new(root, from, after);
-    cursor.next_batch(pages, under, &mut batch)?;
-    if batch.is_empty() {
-        return Ok(false);
-    }
-    let entry = Record::over(alloc, batch[0].as_slice())?;
+    let entry = Record::over(alloc, bytes)?;
     let key = Key {
         columns: under,
         values,
@@ -44,8 +36,55 @@ fn is_next<P: Pages>(
     Ok(compare_entry(key, &entry).is_eq())
 }
 
-/// Whether a row whose entry is in the tree of a UNIQUE index clashes with no other row. (What `is_next` refuses.)
-pub(crate) fn is_alone<P: Pages>(
+/// The records of the first entries from a key on, or, if `after`, after those that begin with it: mostly two, and at least one unless none
+/// comes. (What `Cursor::next_batch` refuses.)
+fn first_records<P: Pages>(
+    alloc: Global,
+    pages: &mut P,
+    root: u32,
+    under: &[Collation],
+    from: Vec<Value>,
+    after: bool,
+) -> R<Vec<Vec<u8>>>
+    ensures found { IsTrue (P.Pages.tells (P.Pages.below pages.old)) → (entries : List Entry) (used : List ℕ)
+        → AreWhole (P.Pages.limits (P.Pages.below pages.old)).page (P.Pages.map pages.old)
+        → IsIndexTree (P.Pages.map pages.old) (P.Pages.limits (P.Pages.below pages.old)).page root under.now entries used
+        → MatchResult result (λ batch. (given : List Entry) × (later : List Entry)
+        × Pairwise IsRecord (map (λ bytes. bytes.items) batch.items) given
+        × (entries_from after under.now from.items entries ≡ given ++ later)
+        × (given ≡ [] → later ≡ [])) IsOutside }
+    ensures stays { Stays P.Pages.below P.Pages.map P.Pages.count P.Pages.failures result pages.old pages.new }
+{
+    let mut batch = Vec::new(alloc);
+    let mut cursor = Cursor::brief(root, from, after);
+    cursor.next_batch(pages, under, &mut batch)?;
+    Ok(batch)
+}
+
+/// Whether the first entry after those that begin with a key equals another key. (What `first_records` and `is_entry` refuse.)
+fn is_next<P: Pages>(
+    alloc: Global,
+    pages: &mut P,
+    root: u32,
+    under: &[Collation],
+    from: Vec<Value>,
+    values: &[Value],
+) -> R<bool>
+    ensures found { IsTrue (P.Pages.tells (P.Pages.below pages.old))
+        → FindsNext (P.Pages.map pages.old) (P.Pages.limits (P.Pages.below pages.old)).page root
+        under.now from.items true values.now result }
+    ensures stays { Stays P.Pages.below P.Pages.map P.Pages.count P.Pages.failures result pages.old pages.new }
+{
+    let records = first_records(alloc, pages, root, under, from, true)?;
+    if records.is_empty() {
+        return Ok(false);
+    }
+    is_entry(alloc, under, records[0].as_slice(), values)
+}
+
+/// Whether a row whose entry is in the tree of a UNIQUE index clashes with no other row: mostly by one descent.
+/// (What `first_records`, `is_entry` and `is_next` refuse.)
+pub fn is_alone<P: Pages>(
     alloc: Global,
     pages: &mut P,
     root: u32,
@@ -64,9 +103,16 @@ pub(crate) fn is_alone<P: Pages>(
     }
     let entry = entry_of(alloc, columns, row)?;
     let from = key_of(alloc, columns, &row.values)?;
-    if !is_next(alloc, pages, root, under, from, false, &entry)? {
+    let records = first_records(alloc, pages, root, under, from, false)?;
+    if records.is_empty() {
+        return Ok(false);
+    }
+    if !is_entry(alloc, under, records[0].as_slice(), &entry)? {
         return Ok(false);
     }
     let key = key_of(alloc, columns, &row.values)?;
-    Ok(!is_next(alloc, pages, root, under, entry, true, &key)?)
+    if records.len() > 1 {
+        return Ok(!is_entry(alloc, under, records[1].as_slice(), &key)?);
+    }
+    Ok(!is_next(alloc, pages, root, under, entry, &key)?)
 }

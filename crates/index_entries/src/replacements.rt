@@ -113,7 +113,7 @@ pub fn replace_row<P: WritePages>(
 }
 
 /// Puts the entries of rows in place of those of others, each of which has its row's rowid. Of an entry that stays as it is no page is read. (What
-/// `take_entries` and `add_entries` refuse. Then some entries may have changed.)
+/// `take_entries` and `add_row` refuse. Then some entries may have changed.)
 pub fn replace_entries<P: WritePages>(
     alloc: Global,
     pages: &mut P,

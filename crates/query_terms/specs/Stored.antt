@@ -8,6 +8,11 @@ abbrev pub rowid_value : Option ℤ → Value
 rowid_value None = Null
 rowid_value (Some rowid) = Int rowid
 
+-- the integer that a value is, if it is one
+abbrev pub integer_in : Value → Option ℤ
+integer_in (Int rowid) = Some rowid
+integer_in _ = None
+
 -- the values with this one at a place; where there are fewer, after as many NULLs as that takes
 abbrev pub with_at : ℕ → Value → List Value → List Value
 with_at zero value [] = value ∷ []

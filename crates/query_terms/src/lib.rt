@@ -11,6 +11,7 @@ mod operands;
 mod places;
 mod rows;
 mod sameness;
+mod stored;
 mod texts;
 mod totals;
 mod tree;

@@ -1,40 +1,48 @@
 //! The rows that an expression is evaluated over.
 
-ghost use Rattle.std.specs.Prelude.{◌≡◌, [], Some, None, IfOk, OnOk, option_map, unwrap_or, slice_get};
+ghost use Rattle.std.specs.Prelude.{◌≡◌, [], Some, IfOk, map, option_map, unwrap_or, slice_get};
 ghost use Rattle.sqlval.specs.declared.value.Value.TheVariants.{Null};
 ghost use Rattle.sqlval.specs.Fields.{value_of};
 ghost use Rattle.query_terms.specs.Rows.{picked_rows, row_of, seen};
-ghost use Rattle.query_terms.specs.Stored.{rowid_value, with_at, with_own};
 ghost use Rattle.query_terms.specs.Values as meant;
 
 use crate::places::RowPlaces;
+use crate::stored::StoredRow;
 use crate::tree::Place;
-use record::{value_at, values_of};
-use smallvec::SmallVec;
 use sqlval::{Field, Many, Value};
 use std::alloc::{AllocError, Global};
 use std::marker::Model;
 
-/// A row of a source. Its values lie in a record, out of which one is read where it is asked for: contracts see the values. At the place of the
-/// rowid's own column, where there is one, the value is the rowid, whatever the record says there.
+/// A row whose values were made and lie in no record.
+#[derive(Drop)]
+struct MadeRow {
+    rowid: Value,
+    values: Many<Value>,
+}
+
+/// Where the values of a row are.
+#[derive(Drop)]
+enum Cells {
+    Stored(StoredRow),
+    Made(MadeRow),
+}
+
+/// A row of a source, in a record or made: contracts see the rowid and the values.
 #[derive(Drop)]
 pub struct SourceRow {
-    rowid: Option<i64>,
-    own: Option<usize>,
-    record: SmallVec<u8, 48>,
+    cells: Cells,
 }
 
 impl Model for SourceRow {
-    ghost use Rattle.record.specs.Columns.{values_in};
-    ghost use Rattle.query_terms.specs.Stored.{rowid_value, with_own};
     ghost use Rattle.query_terms.specs.Values.{Row};
+    ghost use Rattle.query_terms.specs.declared.rows.Cells.TheVariants.{Stored, Made};
 
     ghost Value = { Row };
 
-    ghost view = { λ row. record {
-      rowid = rowid_value row.rowid;
-      values = with_own row.own (rowid_value row.rowid) (values_in row.record.items);
-    } };
+    ghost view = { λ row. elim row.cells [
+      | Stored stored ↦ stored
+      | Made made ↦ record { rowid = made.rowid; values = made.values }
+    ] };
 }
 
 /// What an expression is evaluated over: lists of rows, and which row of each is looked at.
@@ -50,27 +58,35 @@ pub struct Env<'a> {
     pub keys: &'a [Value],
 }
 
-/// Puts a value at a place among these; where there are fewer, after as many NULLs as that takes.
-fn put_at(values: &mut Vec<Value>, place: usize, value: Value) -> Result<(), AllocError>
-    ensures { OnOk result (values.new.items ≡ with_at place value values.old.items) }
+/// The values, without copies of their bytes.
+fn lent(alloc: Global, values: &[Value]) -> Result<Vec<Field<'_>>, AllocError>
+    ensures { IfOk result (λ fields. map value_of fields.items ≡ values.now) }
 {
-    'nulls: for _ in values.len()..place {
-        values.push(Value::Null)?;
+    let mut fields = Vec::with_capacity(alloc, values.len())?;
+    'values: for value in values {
+        fields.push(value.as_field())?;
     }
-    if place < values.len() {
-        values[place] = value;
-    } else {
-        values.push(value)?;
+    Ok(fields)
+}
+
+/// Copies of these values.
+fn copies_of(alloc: Global, fields: &[Field<'_>]) -> Result<Many<Value>, AllocError>
+    ensures { IfOk result (λ copies. copies ≡ map value_of fields.now) }
+{
+    let mut copies = Vec::with_capacity(alloc, fields.len())?;
+    'fields: for field in fields {
+        copies.push(field.to_value(alloc)?)?;
     }
-    Ok(())
+    Ok(Many::from_vec(copies))
 }
 
 impl SourceRow {
     ghost use Rattle.std.specs.Prelude.{IfOk, OnOk};
     ghost use Rattle.record.specs.Columns.{values_in};
-    ghost use Rattle.query_terms.specs.Stored.{rowid_value, with_own};
+    ghost use Rattle.query_terms.specs.Stored.{integer_in, rowid_value, with_own};
 
-    /// The row of the record in these bytes, of which it keeps a copy. `own` is the place of the rowid's own column. (See `record::value_at`.)
+    /// The row of the record in these bytes, of which it keeps a copy. `own` is the place of the rowid's own column: there the value is the rowid,
+    /// whatever the record says. (See `record::value_at`.)
     pub fn new(
         alloc: Global,
         rowid: Option<i64>,
@@ -81,15 +97,23 @@ impl SourceRow {
             { rowid = rowid_value rowid; values = with_own own (rowid_value rowid) (values_in bytes.now) }) }
     {
         Ok(SourceRow {
-            rowid,
-            own,
-            record: SmallVec::from_slice(alloc, bytes)?,
+            cells: Cells::Stored(StoredRow::new(alloc, rowid, own, bytes)?),
         })
+    }
+
+    /// The row of this rowid and these values, which needn't be those of a record.
+    pub fn made(rowid: Value, values: Many<Value>) -> SourceRow
+        ensures { result ≡ record { rowid = rowid; values = values } }
+    {
+        SourceRow {
+            cells: Cells::Made(MadeRow { rowid, values }),
+        }
     }
 
     /// The row becomes that of the record in these bytes, in the memory that it has where they fit.
     pub fn refill(
         &mut self,
+        alloc: Global,
         rowid: Option<i64>,
         own: Option<usize>,
         bytes: &[u8],
@@ -97,32 +121,51 @@ impl SourceRow {
         ensures { OnOk result (self.new ≡ record
             { rowid = rowid_value rowid; values = with_own own (rowid_value rowid) (values_in bytes.now) }) }
     {
-        self.rowid = rowid;
-        self.own = own;
-        self.record.clear();
-        self.record.extend_from_slice(bytes)
+        match &mut self.cells {
+            Cells::Stored(stored) => stored.refill(rowid, own, bytes),
+            Cells::Made(_) => {
+                *self = SourceRow::new(alloc, rowid, own, bytes)?;
+                Ok(())
+            }
+        }
     }
 
-    /// The rowid, if it has one.
+    /// The rowid, if it is an integer.
     pub fn rowid(&self) -> Option<i64>
-        ensures { rowid_value result ≡ self.now.rowid }
+        ensures { result ≡ integer_in self.now.rowid }
     {
-        self.rowid
+        match self.rowid_field() {
+            Field::Int(rowid) => Some(rowid),
+            _ => None,
+        }
+    }
+
+    /// The rowid as a value.
+    pub fn rowid_field(&self) -> Field<'_>
+        ensures { value_of result ≡ self.now.rowid }
+    {
+        match &self.cells {
+            Cells::Stored(stored) => stored.rowid_field(),
+            Cells::Made(made) => made.rowid.as_field(),
+        }
+    }
+
+    /// The values, where they lie.
+    pub fn fields(&self, alloc: Global) -> Result<Vec<Field<'_>>, AllocError>
+        ensures { IfOk result (λ fields. map value_of fields.items ≡ self.now.values) }
+    {
+        match &self.cells {
+            Cells::Stored(stored) => stored.fields(alloc),
+            Cells::Made(made) => lent(alloc, made.values.as_slice()),
+        }
     }
 
     /// Copies of the values.
     pub fn values(&self, alloc: Global) -> Result<Many<Value>, AllocError>
         ensures { IfOk result (λ values. values ≡ self.now.values) }
     {
-        let values = values_of(alloc, self.record.as_slice())?;
-        match self.own {
-            Some(place) => {
-                let mut values = values.into_vec();
-                put_at(&mut values, place, rowid_field(self.rowid).to_value(alloc)?)?;
-                Ok(Many::from_vec(values))
-            }
-            None => Ok(values),
-        }
+        let fields = self.fields(alloc)?;
+        copies_of(alloc, fields.as_slice())
     }
 
     /// The value at a place.
@@ -130,43 +173,27 @@ impl SourceRow {
         ensures { value_of result ≡ meant.at_row (Some self.now) place }
     {
         match place {
-            Place::RowId => rowid_field(self.rowid),
+            Place::RowId => self.rowid_field(),
             Place::At(index) => self.column(index),
         }
     }
 
-    /// The value of the column at a place.
-    fn column(&self, index: usize) -> Field<'_>
+    /// The value of the column at a place, NULL past the last.
+    pub fn column(&self, index: usize) -> Field<'_>
         ensures { value_of result ≡ unwrap_or (slice_get self.now.values index) Null }
     {
-        let held = value_at(self.record.as_slice(), index);
-        match self.own {
-            Some(place) => {
-                if place == index {
-                    return rowid_field(self.rowid);
-                }
-                held
-            }
-            None => held,
+        match &self.cells {
+            Cells::Stored(stored) => stored.column(index),
+            Cells::Made(made) => field_at(made.values.as_slice(), index),
         }
     }
 }
 
-/// A rowid as a value.
-fn rowid_field(rowid: Option<i64>) -> Field<'static>
-    ensures { value_of result ≡ rowid_value rowid }
+/// The value at a place, NULL past the last.
+fn field_at(values: &[Value], index: usize) -> Field<'_>
+    ensures { value_of result ≡ unwrap_or (slice_get values.now index) Null }
 {
-    match rowid {
-        Some(rowid) => Field::Int(rowid),
-        None => Field::Null,
-    }
-}
-
-/// The key at a place, NULL past the last.
-fn key_at(keys: &[Value], index: usize) -> Field<'_>
-    ensures { value_of result ≡ unwrap_or (slice_get keys.now index) Null }
-{
-    match keys.get(index) {
+    match values.get(index) {
         Some(value) => value.as_field(),
         None => Field::Null,
     }
@@ -195,7 +222,7 @@ impl<'a> Env<'a> {
     pub fn key(&self, place: usize) -> Field<'a>
         ensures { value_of result ≡ unwrap_or (slice_get (seen self.now).keys place) Null }
     {
-        key_at(self.keys, place)
+        field_at(self.keys, place)
     }
 
     /// One row of the group by itself.

@@ -1,11 +1,10 @@
 -- The values in bytes, each by itself.
-use Rattle.std.proofs.Common.{◌≡◌, inl, inr, eqb, ℕ, zero, suc, ◌+◌, ◌-◌, ◌<◌, ◌≤◌, List, [], ◌∷◌, ◌++◌, length, drop, Option, Some, None, Result, Ok, Err, refl, sym, ap, ◌∙◌, append_assoc, arith}
+use Rattle.std.proofs.Common.{◌≡◌, inl, inr, eqb, ℕ, zero, suc, ◌+◌, ◌-◌, ◌<◌, ◌≤◌, List, [], ◌∷◌, ◌++◌, length, drop, Option, Some, None, Ok, Err, refl, sym, ap, ◌∙◌, append_assoc, arith}
 use Rattle.std.proofs.lemmas.Bool.{eqb-true}
 use Rattle.std.proofs.lemmas.List.{append-nil}
 use Rattle.std.specs.Prelude.{option_map, slice_get, unwrap_or}
 use Rattle.sqlval.specs.declared.value.Value.{Value}
 use Rattle.sqlval.specs.declared.value.Value.TheVariants.{Null}
-use Rattle.record.specs.declared.field.Wrong.{Wrong}
 use Rattle.record.specs.declared.field.Wrong.TheVariants.{Broken}
 use Rattle.record.specs.Varint.{varint_at}
 use Rattle.record.specs.Record.{IsRecord}
@@ -26,7 +25,7 @@ pub no_types : (most : ℕ) (bodies : List ℕ) → values_from most [] bodies �
 no_types zero bodies = refl
 no_types (suc most) bodies = ap (and_those_after (value_here [] bodies) (values_from most)) (none_left bodies)
 
-left_is : (types bodies : List ℕ) (value : Value) (types_left bodies_left : List ℕ) → column_at types bodies ≡ Ok (value, types_left, bodies_left)
+pub left_is : (types bodies : List ℕ) (value : Value) (types_left bodies_left : List ℕ) → column_at types bodies ≡ Ok (value, types_left, bodies_left)
     → left_after types bodies ≡ Some (types_left, bodies_left)
 left_is types bodies value types_left bodies_left e =
     let takes = column_takes types bodies value types_left bodies_left e in

@@ -4,7 +4,7 @@ use Rattle.std.proofs.lemmas.List.Elements.{recursion_from_All, All-from_get_or}
 use Rattle.std.specs.List.{AllByRecursion, fold}
 use Rattle.std.proofs.lemmas.Bool.{ltb-true, ltb-false, lt-ltb, le-ltb, cases_lt}
 use Rattle.std.proofs.lemmas.List.{map_push, length_push, length-map}
-use Rattle.std.proofs.Math.Nat.{pow-le-pow_right, pow-suc}
+use Rattle.std.proofs.Math.Nat.{mod-eq_of_lt, pow-le-pow_right, pow-suc}
 use Rattle.std.proofs.lemmas.Nat.{mul-le}
 use Rattle.record.specs.Varint.{base128, marked, AreDigits, Ends, IsVarint, varint_from, varint_at, digits, going_on, high_count, varint, IsShortestVarint}
 use Rattle.std.proofs.lemmas.Bool.Decides.{nat_tests}
@@ -247,3 +247,17 @@ length_one n below = omega (arith, length-varint n, count_one n below)
 
 pub length_two : (n : ℕ) → 128 ≤ n → n < 16384 → length (varint n) ≡ 2
 length_two n above below = omega (arith, length-varint n, count_two n above below)
+
+-- ---- numbers of one byte or two
+
+pub varint_of_one : (n : ℕ) → n < 128 → varint n ≡ n ∷ []
+unfolding varint
+varint_of_one n below =
+    let last : n % 128 ≡ n = mod-eq_of_lt below in
+    rw (lt-ltb n (2 ^ 56) (omega arith), count_one n below, last) refl
+
+pub varint_of_two : (n : ℕ) → 128 ≤ n → n < 16384 → varint n ≡ (128 + n / 128) ∷ n % 128 ∷ []
+unfolding varint
+varint_of_two n above below =
+    let first : n / 128 % 128 ≡ n / 128 = mod-eq_of_lt (omega arith) in
+    rw (lt-ltb n (2 ^ 56) (omega arith), count_two n above below, first) refl

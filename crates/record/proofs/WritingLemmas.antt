@@ -1,20 +1,24 @@
 -- What is written is a record of the values.
-use Rattle.std.proofs.Common.{◌≡◌, inl, inr, ℕ, zero, suc, ℤ, pos, negsuc, ◌-ℤ◌, ◌+◌, ◌*◌, ◌-◌, ◌%◌, ◌^◌, ◌<◌, ◌≤◌, false, cond, nat_lt, List, [], ◌∷◌, ◌++◌, length, refl, sym, ap, subst, ◌∙◌, append_assoc, arith}
-use Rattle.std.specs.Int.{w64}
+use Rattle.std.proofs.Common.{◌≡◌, inl, inr, ℕ, zero, suc, ℤ, pos, negsuc, ◌-ℤ◌, ◌+◌, ◌*◌, ◌-◌, ◌%◌, ◌^◌, ◌<◌, ◌≤◌, false, cond, nat_lt, List, [], ◌∷◌, ◌++◌, length, map, take, drop, refl, sym, ap, subst, ◌∙◌, append_assoc, arith}
+use Rattle.std.specs.Int.{w64, bytes_high_first}
 use Rattle.std.specs.Prelude.{Result, Ok, Err, IfOk, OnOk, All}
 use Rattle.std.specs.Global.{Vec}
 use Rattle.sqlval.specs.declared.fault.Fault.{Fault}
-use Rattle.std.proofs.lemmas.List.Elements.{recursion_from_All}
+use Rattle.std.proofs.lemmas.List.Elements.{All-from_recursion, recursion_from_All}
 use Rattle.std.specs.List.{flat_map, AllByRecursion}
 use Rattle.std.proofs.Math.Nat.{mod-eq_of_lt, mod-lt}
 use Rattle.std.proofs.lemmas.Bool.{lt-ltb, le-ltb, cases_lt}
+use Rattle.std.proofs.lemmas.Bool.Decides.{nat_tests}
 use Rattle.std.proofs.lemmas.Int.{ints}
 use Rattle.std.proofs.lemmas.List.{append-nil, length-append}
 use Rattle.byteorder.specs.Endian.{big_number, big_bytes, twos_complement, low_bytes}
 use Rattle.byteorder.specs.Numbers.{big_number-reads_back, length-bytes_high_first}
+use Rattle.sqlval.specs.Fields.{value_of}
+use Rattle.sqlval.specs.declared.value.Field.{Field}
 use Rattle.sqlval.specs.declared.value.Value.{Value}
 use Rattle.sqlval.specs.declared.value.Value.TheVariants.{Null, Int, Text, Blob}
 use Rattle.record.specs.Varint.{IsVarint, varint}
+use Rattle.record.specs.Reading.{body_len}
 use Rattle.record.specs.Record.{width, IsWide, IsBody, AreColumns, IsRecord}
 use Rattle.record.specs.Writing.{IsStorable, AreStorable, Fits, wide_type, serial_of, wide_bytes, body_of, type_of, header_len, with_header, record_of}
 use Rattle.record.proofs.VarintLemmas.{varint_shortest, length_varint_le, length_one, length_two}
@@ -124,6 +128,89 @@ value_is_written (Int (negsuc n)) fits storable =
 value_is_written (Text t) fits storable = ((refl, refl, fits), omega arith)
 value_is_written (Blob b) fits storable = ((refl, refl), omega arith)
 
+-- ---- lengths
+
+-- the last bytes of all eight are the lowest bytes
+abbrev AreLast : ℕ → Type 0
+AreLast w = (x : ℕ) → take (8 - (8 - w)) (drop (8 - w) (bytes_high_first 8 x)) ≡ bytes_high_first w (x % 2 ^ (8 * w))
+
+last_1 : AreLast 1
+last_1 x = grind arith
+
+last_2 : AreLast 2
+last_2 x = grind arith
+
+last_3 : AreLast 3
+last_3 x = grind arith
+
+last_4 : AreLast 4
+last_4 x = grind arith
+
+last_6 : AreLast 6
+last_6 x = grind arith
+
+last_8 : AreLast 8
+last_8 x = grind arith
+
+pub lowest_are_last : (serial x : ℕ) → 1 ≤ serial → serial ≤ 6 → take (8 - (8 - width serial)) (drop (8 - width serial) (bytes_high_first 8 x)) ≡ bytes_high_first (width serial) (x % 2 ^ (8 * width serial))
+lowest_are_last zero x low high = absurd (omega arith)
+lowest_are_last (suc zero) x low high = last_1 x
+lowest_are_last (suc (suc zero)) x low high = last_2 x
+lowest_are_last (suc (suc (suc zero))) x low high = last_3 x
+lowest_are_last (suc (suc (suc (suc zero)))) x low high = last_4 x
+lowest_are_last (suc (suc (suc (suc (suc zero))))) x low high = last_6 x
+lowest_are_last (suc (suc (suc (suc (suc (suc zero)))))) x low high = last_8 x
+lowest_are_last (suc (suc (suc (suc (suc (suc (suc k))))))) x low high = absurd (omega arith)
+
+wide_high : (n : ℕ) → wide_type n ≤ 6
+unfolding wide_type
+wide_high n = grind (arith, nat_tests)
+
+pub width_few : (serial : ℕ) → serial ≤ 6 → width serial ≤ 8
+width_few serial high = grind (arith, nat_tests)
+
+pub body_len_wide : (serial : ℕ) → serial ≤ 6 → body_len serial ≡ width serial
+unfolding body_len
+body_len_wide serial high = grind (arith, nat_tests)
+
+wide_short : (serial : ℕ) (n : ℤ) → serial ≤ 6 → length (wide_bytes serial n) ≤ 1000000
+wide_short serial n high = rw (length-bytes_high_first (width serial) (low_bytes w64 (width serial) n)) (omega (arith, width_few serial high))
+
+-- a value's serial type says how long its body is
+pub length-body : (value : Value) → body_len (serial_of value) ≡ length (body_of value)
+unfolding body_of body_len
+length-body Null = refl
+length-body (Int (pos n)) =
+    elim (cases_lt n 2) [
+      | inl a ↦ rw (lt-ltb _ _ a) (small n a)
+      | inr b ↦ rw (le-ltb _ _ b) (body_len_wide (wide_type n) (wide_high n) ∙ sym (length-bytes_high_first (width (wide_type n)) (low_bytes w64 (width (wide_type n)) (pos n))))
+    ]
+  where
+    small : (n : ℕ) → n < 2 → body_len (8 + n) ≡ 0
+    small zero a = refl
+    small (suc zero) a = refl
+    small (suc (suc n)) a = absurd (omega arith)
+length-body (Int (negsuc n)) =
+    body_len_wide (wide_type n) (wide_high n) ∙ sym (length-bytes_high_first (width (wide_type n)) (low_bytes w64 (width (wide_type n)) (negsuc n)))
+length-body (Text t) = grind (arith, nat_tests)
+length-body (Blob b) = grind (arith, nat_tests)
+
+pub length-type : (value : Value) (serial : ℕ) → serial ≡ serial_of value → length (varint serial) ≡ length (type_of value)
+unfolding type_of
+length-type value serial e = ap (λ (serial : ℕ). length (varint serial)) e
+
+pub body_short : (value : Value) → IsStorable value → length (body_of value) ≤ 1000000
+unfolding body_of
+body_short Null storable = omega arith
+body_short (Int (pos n)) storable =
+    elim (cases_lt n 2) [
+      | inl a ↦ rw (lt-ltb _ _ a) (omega arith)
+      | inr b ↦ rw (le-ltb _ _ b) (wide_short (wide_type n) (pos n) (wide_high n))
+    ]
+body_short (Int (negsuc n)) storable = wide_short (wide_type n) (negsuc n) (wide_high n)
+body_short (Text t) storable = storable
+body_short (Blob b) storable = storable
+
 -- ---- the row
 
 columns_are_written : (values : List Value) → AllByRecursion IsWritten values → AreColumns (flat_map type_of values) (flat_map body_of values) values
@@ -179,12 +266,18 @@ row_is_written [] fits storable = tt
 row_is_written (value ∷ values) fits storable = (value_is_written value fits.0 storable.0, row_is_written values fits.1 storable.1)
 
 -- the parts as they are written one after the other
-pub parts_are : (types0 types out0 out1 out2 out3 t b : List ℕ) (size : ℕ) → types0 ≡ [] → types ≡ types0 ++ t → out0 ≡ [] → out1 ≡ out0 ++ varint size → out2 ≡ out1 ++ types → out3 ≡ out2 ++ b
-    → size ≡ header_len (length types) → out3 ≡ with_header t b
-parts_are types0 types out0 out1 out2 out3 t b size e0 e1 e2 e3 e4 e5 e6 =
-    let types_is : types ≡ t = e1 ∙ ap (λ (x : List ℕ). x ++ t) e0 in
-    let head_is : out1 ≡ varint (header_len (length t)) = e3 ∙ ap (λ (x : List ℕ). x ++ varint size) e2 ∙ ap varint (e6 ∙ ap (λ (x : List ℕ). header_len (length x)) types_is) in
-    e5 ∙ ap (λ (x : List ℕ). x ++ b) (e4 ∙ ap (λ (x : List ℕ). x ++ types) head_is ∙ ap (λ (x : List ℕ). varint (header_len (length t)) ++ x) types_is) ∙ append_assoc (varint (header_len (length t))) t b
+pub parts_are : (out0 out1 out2 out3 t b : List ℕ) (size : ℕ) → out0 ≡ [] → out1 ≡ out0 ++ varint size → out2 ≡ out1 ++ t → out3 ≡ out2 ++ b → size ≡ header_len (length t) → out3 ≡ with_header t b
+parts_are out0 out1 out2 out3 t b size e0 e1 e2 e3 e4 =
+    let head_is : out1 ≡ varint (header_len (length t)) = e1 ∙ ap (λ (x : List ℕ). x ++ varint size) e0 ∙ ap varint e4 in
+    e3 ∙ ap (λ (x : List ℕ). x ++ b) (e2 ∙ ap (λ (x : List ℕ). x ++ t) head_is) ∙ append_assoc (varint (header_len (length t))) t b
+
+-- of values that lie elsewhere: each part of the record, item by item
+pub storable_each : (fields : List Field) → AreStorable (map value_of fields) → All (λ f. IsStorable (value_of f)) fields
+storable_each fields are = All-from_recursion (λ f. IsStorable (value_of f)) fields (each fields (recursion_from_All IsStorable (map value_of fields) are.1))
+  where
+    each : (fs : List Field) → AllByRecursion IsStorable (map value_of fs) → AllByRecursion (λ f. IsStorable (value_of f)) fs
+    each [] all = tt
+    each (f ∷ fs) all = (all.0, each fs all.1)
 
 pub is_written : (values : List Value) (r : Result (Vec ℕ) Fault) → AreStorable values → OnOk r (All Fits values) → IfOk r (λ bytes. bytes.items ≡ record_of values) → IfOk r (λ bytes. IsRecord bytes.items values)
 is_written values (Ok bytes) storable fits exact =

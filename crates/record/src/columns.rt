@@ -1,6 +1,6 @@
 //! The values of a record, each read where it is asked for.
 
-ghost use Rattle.std.specs.Prelude.{◌≡◌, ◌<◌, IfOk, IfSome, length, option_map, slice_get, unwrap_or};
+ghost use Rattle.std.specs.Prelude.{◌≡◌, ◌<◌, IfOk, IfSome, length, map, option_map, slice_get, unwrap_or};
 ghost use Rattle.sqlval.specs.declared.value.Value.TheVariants.{Null};
 ghost use Rattle.sqlval.specs.Fields.{value_of};
 ghost use Rattle.record.specs.Columns.{HoldsValues, left_after, value_here, values_from, values_in};
@@ -31,6 +31,21 @@ fn first_value<'a>(types: &'a [u8], bodies: &'a [u8]) -> Field<'a>
     }
 }
 
+/// The first value, NULL where none can be read, and what is left of the types and of the bodies after it.
+fn next_value<'a>(types: &'a [u8], bodies: &'a [u8]) -> Option<(Field<'a>, &'a [u8], &'a [u8])>
+    ensures left { option_map (λ found. (found.1.now, found.2.now)) result ≡ left_after types.now bodies.now }
+    ensures value { IfSome result (λ found. value_of found.0 ≡ value_here types.now bodies.now) }
+    ensures shorter { IfSome result (λ found. length found.1.now < length types.now) }
+{
+    match read_field(types, bodies) {
+        Ok(found) => Some(found),
+        Err(_) => {
+            let (types_left, bodies_left) = after_value(types, bodies)?;
+            Some((Field::Null, types_left, bodies_left))
+        }
+    }
+}
+
 /// The value at a place, NULL where there is none, or none that can be read.
 fn nth_value<'a>(types: &'a [u8], bodies: &'a [u8], index: usize) -> Field<'a>
     ensures { value_of result ≡ unwrap_or (slice_get
@@ -49,18 +64,25 @@ fn nth_value<'a>(types: &'a [u8], bodies: &'a [u8], index: usize) -> Field<'a>
 }
 
 /// All values, in order.
-fn all_values(alloc: Global, types: &[u8], bodies: &[u8]) -> Result<Many<Value>, AllocError>
-    ensures { IfOk result (λ values. values ≡ values_from (length types.now) types.now bodies.now) }
+fn all_fields<'a>(
+    alloc: Global,
+    types: &'a [u8],
+    bodies: &'a [u8],
+) -> Result<Vec<Field<'a>>, AllocError>
+    ensures { IfOk result (λ fields. map value_of fields.items ≡ values_from (length types.now) types.now bodies.now) }
 {
-    let mut values = Many::new(alloc);
+    let mut fields = Vec::with_capacity(alloc, types.len().min(64))?;
     let mut types_left = types;
     let mut bodies_left = bodies;
-    'columns: while let Some((types_after, bodies_after)) = after_value(types_left, bodies_left) {
-        values.push(first_value(types_left, bodies_left).to_value(alloc)?)?;
+    'columns: while let Some((field, types_after, bodies_after)) = next_value(
+        types_left,
+        bodies_left,
+    ) {
+        fields.push(field)?;
         types_left = types_after;
         bodies_left = bodies_after;
     }
-    Ok(values)
+    Ok(fields)
 }
 
 /// The value at a place of the record in these bytes, counted from 0: no other value is looked at. NULL past its values, and where none can be
@@ -74,14 +96,26 @@ pub fn value_at(bytes: &[u8], index: usize) -> Field<'_>
     }
 }
 
+/// The values of the record in these bytes, where they lie, as `value_at` gives them.
+pub fn fields_of(alloc: Global, bytes: &[u8]) -> Result<Vec<Field<'_>>, AllocError>
+    ensures { IfOk result (λ fields. map value_of fields.items ≡ values_in bytes.now) }
+{
+    match split(bytes) {
+        Ok((types, bodies)) => all_fields(alloc, types, bodies),
+        Err(_) => Ok(Vec::new(alloc)),
+    }
+}
+
 /// Copies of the values of the record in these bytes, as `value_at` gives them.
 pub fn values_of(alloc: Global, bytes: &[u8]) -> Result<Many<Value>, AllocError>
     ensures { IfOk result (λ values. values ≡ values_in bytes.now) }
 {
-    match split(bytes) {
-        Ok((types, bodies)) => all_values(alloc, types, bodies),
-        Err(_) => Ok(Many::new(alloc)),
+    let fields = fields_of(alloc, bytes)?;
+    let mut values = Vec::with_capacity(alloc, fields.len())?;
+    'fields: for field in fields.as_slice() {
+        values.push(field.to_value(alloc)?)?;
     }
+    Ok(Many::from_vec(values))
 }
 
 /// In the bytes of a record lie its values.

@@ -21,7 +21,7 @@ mod row;
 mod varint;
 mod writing;
 
-pub use columns::{records_hold_their_values, value_at, values_of};
+pub use columns::{fields_of, records_hold_their_values, value_at, values_of};
 pub use row::{Record, bytes_determine_values};
 pub use varint::{get_varint, put_varint, varint_len};
-pub use writing::{encode, encode_row, is_storable};
+pub use writing::{encode, encode_fields, encode_row, is_storable};

@@ -19,8 +19,21 @@ pub fn get_varint(bytes: &[u8]) -> Option<(u64, &[u8])>
     read(bytes)
 }
 
+/// Most numbers are one byte.
 #[tactic(auto, unfolding(crate::specs::Varint::varint_at))]
 fn read(bytes: &[u8]) -> Option<(u64, &[u8])>
+    ensures { option_map (λ found. (found.0, found.1.now)) result ≡ varint_at bytes.now }
+{
+    let (first, after) = bytes.split_first()?;
+    if *first < 128 {
+        return Some((u64::from(*first), after));
+    }
+    read_digits(bytes)
+}
+
+/// A number of any length, digit by digit.
+#[tactic(auto, unfolding(crate::specs::Varint::varint_at))]
+fn read_digits(bytes: &[u8]) -> Option<(u64, &[u8])>
     ensures { option_map (λ found. (found.0, found.1.now)) result ≡ varint_at bytes.now }
 {
     let mut high = 0u64;
@@ -94,8 +107,24 @@ pub fn put_varint(out: &mut Vec<u8>, n: u64) -> Result<(), AllocError>
     write(out, n)
 }
 
-#[tactic(auto, unfolding(crate::specs::Varint::varint))]
+/// Most numbers take one byte or two.
 fn write(out: &mut Vec<u8>, n: u64) -> Result<(), AllocError>
+    ensures { OnOk result (out.new.items ≡ out.old.items ++ varint n) }
+{
+    if n < 1 << 7 {
+        out.push(n as u8)?;
+    } else if n < 1 << 14 {
+        out.push(128 + (n / 128) as u8)?;
+        out.push((n % 128) as u8)?;
+    } else {
+        write_digits(out, n)?;
+    }
+    Ok(())
+}
+
+/// A number of any length, digit by digit.
+#[tactic(auto, unfolding(crate::specs::Varint::varint))]
+fn write_digits(out: &mut Vec<u8>, n: u64) -> Result<(), AllocError>
     ensures { OnOk result (out.new.items ≡ out.old.items ++ varint n) }
 {
     if n < 1 << 56 {

@@ -1,13 +1,15 @@
 //! Rows written as records.
 
-ghost use Rattle.std.specs.Prelude.{◌≡◌, ◌⊎◌, ◌<◌, ◌≤◌, ◌++◌, ◌↔◌, IsTrue, ℕ, List, length, All, IfOk, IfErr, OnOk};
+ghost use Rattle.std.specs.Prelude.{◌≡◌, ◌⊎◌, ◌<◌, ◌≤◌, ◌++◌, ◌↔◌, IsTrue, ℕ, List, length, map, All, IfOk, IfErr, OnOk};
 ghost use Rattle.std.specs.List.{flat_map};
+ghost use Rattle.sqlval.specs.Fields.{value_of};
 ghost use Rattle.record.specs.Record.{width, IsRecord};
 ghost use Rattle.record.specs.Writing.{IsStorable, AreStorable, IsBytes, Fits, wide_type, int_type, int_bytes, wide_bytes, serial_of, type_of, body_of, header_len, record_of};
 
-use crate::varint::put_varint;
-use byteorder::{BigEndian, ByteOrder};
-use sqlval::{Fault, R, Value};
+use crate::field::body_size;
+use crate::varint::{put_varint, varint_len};
+use smallvec::SmallVec;
+use sqlval::{Fault, Field, R, Value};
 use std::alloc::{AllocError, Global};
 
 #[tactic(auto, unfolding(crate::specs::Writing::wide_type))]
@@ -44,15 +46,15 @@ fn type_of_int(n: i64) -> u64
 }
 
 /// The smallest type that holds a value.
-fn serial_type(value: &Value) -> u64
-    requires { IsStorable value.now }
-    ensures { result ≡ serial_of value.now }
+fn serial_type(field: Field<'_>) -> u64
+    requires { IsStorable (value_of field) }
+    ensures { result ≡ serial_of (value_of field.entry) }
 {
-    match value {
-        Value::Null => 0,
-        Value::Int(n) => type_of_int(*n),
-        Value::Text(text) => 13 + 2 * text.as_str().len() as u64,
-        Value::Blob(bytes) => 12 + 2 * bytes.as_slice().len() as u64,
+    match field {
+        Field::Null => 0,
+        Field::Int(n) => type_of_int(n),
+        Field::Text(text) => 13 + 2 * text.len() as u64,
+        Field::Blob(bytes) => 12 + 2 * bytes.len() as u64,
     }
 }
 
@@ -61,14 +63,9 @@ fn put_wide(out: &mut Vec<u8>, serial: u64, n: i64) -> Result<(), AllocError>
     requires high { serial ≤ 6 }
     ensures { OnOk result (out.new.items ≡ out.old.items ++ wide_bytes serial n) }
 {
-    let size = match serial {
-        5 => 6,
-        6 => 8,
-        _ => serial as usize,
-    };
-    let mut bytes = [0u8; 8];
-    BigEndian::write_int(&mut bytes, n, size);
-    out.extend_from_slice(&bytes[..size])
+    let size = body_size(serial) as usize;
+    let bytes = n.to_be_bytes();
+    out.extend_from_slice(&bytes[8 - size..])
 }
 
 fn put_int(out: &mut Vec<u8>, n: i64) -> Result<(), AllocError>
@@ -84,30 +81,31 @@ fn put_int(out: &mut Vec<u8>, n: i64) -> Result<(), AllocError>
 }
 
 #[tactic(auto, unfolding(crate::specs::Writing::body_of))]
-fn put_body(out: &mut Vec<u8>, value: &Value) -> Result<(), AllocError>
-    ensures ok { OnOk result (out.new.items ≡ out.old.items ++ body_of value.now) }
-    ensures fits { Fits value.now }
+fn put_body(out: &mut Vec<u8>, field: Field<'_>) -> Result<(), AllocError>
+    ensures ok { OnOk result (out.new.items ≡ out.old.items ++ body_of (value_of field.entry)) }
+    ensures fits { Fits (value_of field.entry) }
 {
-    match value {
-        Value::Null => Ok(()),
-        Value::Int(n) => put_int(out, *n),
-        Value::Text(text) => out.extend_from_slice(text.as_str().as_bytes()),
-        Value::Blob(bytes) => out.extend_from_slice(bytes.as_slice()),
+    match field {
+        Field::Null => Ok(()),
+        Field::Int(n) => put_int(out, n),
+        Field::Text(text) => out.extend_from_slice(text.as_bytes()),
+        Field::Blob(bytes) => out.extend_from_slice(bytes),
     }
 }
 
 #[tactic(auto, unfolding(crate::specs::Writing::type_of))]
-fn put_type(out: &mut Vec<u8>, value: &Value) -> Result<(), AllocError>
-    requires { IsStorable value.now }
-    ensures { OnOk result (out.new.items ≡ out.old.items ++ type_of value.now) }
+fn put_type(out: &mut Vec<u8>, field: Field<'_>) -> Result<(), AllocError>
+    requires { IsStorable (value_of field) }
+    ensures { OnOk result (out.new.items ≡ out.old.items ++ type_of (value_of field.entry)) }
 {
-    put_varint(out, serial_type(value))
+    put_varint(out, serial_type(field))
 }
 
 #[tactic(auto, unfolding(crate::specs::Writing::header_len))]
 fn header_size(types: u64) -> u64
     requires { types < 16382 }
-    ensures { result ≡ header_len types }
+    ensures value { result ≡ header_len types }
+    ensures small { result < 16384 }
 {
     if types < 127 { types + 1 } else { types + 2 }
 }
@@ -123,41 +121,71 @@ fn is_storable_value(value: &Value) -> bool
     }
 }
 
-fn put_types(out: &mut Vec<u8>, values: &[Value]) -> Result<(), AllocError>
-    requires { All IsStorable values.now }
-    ensures { OnOk result (out.new.items ≡ out.old.items ++ flat_map type_of values.now) }
+fn put_types(out: &mut Vec<u8>, fields: &[Field<'_>]) -> Result<(), AllocError>
+    requires { All (λ field. IsStorable (value_of field)) fields.now }
+    ensures { OnOk result (out.new.items ≡ out.old.items ++ flat_map (λ field. type_of (value_of field)) fields.now) }
 {
-    for value in values {
-        put_type(out, value)?;
+    for field in fields {
+        put_type(out, *field)?;
     }
     Ok(())
 }
 
-fn put_bodies(out: &mut Vec<u8>, values: &[Value]) -> Result<(), AllocError>
-    ensures ok { OnOk result (out.new.items ≡ out.old.items ++ flat_map body_of values.now) }
-    ensures fits { OnOk result (All Fits values.now) }
+fn put_bodies(out: &mut Vec<u8>, fields: &[Field<'_>]) -> Result<(), AllocError>
+    ensures ok { OnOk result (out.new.items ≡ out.old.items ++ flat_map (λ field. body_of (value_of field)) fields.now) }
+    ensures fits { OnOk result (All (λ field. Fits (value_of field)) fields.now) }
 {
-    for value in values {
-        put_body(out, value)?;
+    for field in fields {
+        put_body(out, *field)?;
     }
     Ok(())
+}
+
+/// How many bytes the types take, and how many the bodies.
+fn sizes(fields: &[Field<'_>]) -> (usize, usize)
+    requires few { length fields.now ≤ 1000 }
+    requires storable { All (λ field. IsStorable (value_of field)) fields.now }
+    ensures types { result.0 ≡ length (flat_map (λ field. type_of (value_of field)) fields.now) }
+    ensures bodies { result.1 ≡ length (flat_map (λ field. body_of (value_of field)) fields.now) }
+    ensures few { result.0 ≤ 9000 }
+    ensures short { result.1 ≤ 1000000000 }
+{
+    let mut types = 0;
+    let mut bodies = 0;
+    for field in fields {
+        let serial = serial_type(*field);
+        types += varint_len(serial);
+        bodies += body_size(serial) as usize;
+    }
+    (types, bodies)
 }
 
 /// The record of a row, in the writer's spelling.
 #[tactic(auto, unfolding(crate::specs::Writing::record_of))]
-fn write(alloc: Global, values: &[Value]) -> R<Vec<u8>>
-    requires { AreStorable values.now }
-    ensures exact { IfOk result (λ bytes. bytes.items ≡ record_of values.now) }
-    ensures fits { OnOk result (All Fits values.now) }
+fn write(alloc: Global, fields: &[Field<'_>]) -> R<Vec<u8>>
+    requires { AreStorable (map value_of fields.now) }
+    ensures exact { IfOk result (λ bytes. bytes.items ≡ record_of (map value_of fields.now)) }
+    ensures fits { OnOk result (All Fits (map value_of fields.now)) }
     ensures memory { IfErr result (λ fault. fault ≡ Fault.Memory) }
 {
-    let mut types = Vec::new(alloc);
-    put_types(&mut types, values)?;
-    let mut out = Vec::new(alloc);
-    put_varint(&mut out, header_size(types.len() as u64))?;
-    out.extend_from_slice(&types)?;
-    put_bodies(&mut out, values)?;
+    let (types, bodies) = sizes(fields);
+    let header = header_size(types as u64);
+    let mut out = Vec::with_capacity(alloc, header as usize + bodies)?;
+    put_varint(&mut out, header)?;
+    put_types(&mut out, fields)?;
+    put_bodies(&mut out, fields)?;
     Ok(out)
+}
+
+/// The values, without copies of their bytes.
+fn lent(alloc: Global, values: &[Value]) -> Result<SmallVec<Field<'_>, 16>, AllocError>
+    ensures { IfOk result (λ fields. map value_of fields.items ≡ values.now) }
+{
+    let mut fields = SmallVec::new(alloc);
+    'values: for value in values {
+        fields.push(value.as_field())?;
+    }
+    Ok(fields)
 }
 
 /// Whether a record can hold these values: at most 1000, each text and each blob of at most 1,000,000 bytes.
@@ -167,19 +195,33 @@ pub fn is_storable(values: &[Value]) -> bool
     values.len() <= 1000 && values.iter().all(|value| is_storable_value(value))
 }
 
-/// The record of a row: its bytes, the fewest that there are. Fails with `Fault::Memory` alone.
+/// The record of a row whose values lie elsewhere: its bytes, the fewest that there are. Fails with `Fault::Memory` alone.
+pub fn encode_fields(alloc: Global, fields: &[Field<'_>]) -> R<Vec<u8>>
+    requires { AreStorable (map value_of fields.now) }
+    ensures is { IfOk result (λ bytes. IsRecord bytes.items (map value_of fields.now)) }
+    // No record of these values is shorter.
+    ensures shortest { IfOk result (λ bytes. (other : List ℕ) → IsBytes other
+        → IsRecord other (map value_of fields.now)
+        → length bytes.items ≤ length other) }
+    ensures exact { IfOk result (λ bytes. bytes.items ≡ record_of (map value_of fields.now)) }
+    ensures memory { IfErr result (λ fault. fault ≡ Fault.Memory) }
+{
+    write(alloc, fields)
+}
+
+/// The same of values.
 pub fn encode(alloc: Global, values: &[Value]) -> R<Vec<u8>>
     // `is_storable` is the test.
     requires { AreStorable values.now }
     ensures is { IfOk result (λ bytes. IsRecord bytes.items values.now) }
-    // No record of these values is shorter.
     ensures shortest { IfOk result (λ bytes. (other : List ℕ) → IsBytes other
         → IsRecord other values.now
         → length bytes.items ≤ length other) }
     ensures exact { IfOk result (λ bytes. bytes.items ≡ record_of values.now) }
     ensures memory { IfErr result (λ fault. fault ≡ Fault.Memory) }
 {
-    write(alloc, values)
+    let fields = lent(alloc, values)?;
+    encode_fields(alloc, fields.as_slice())
 }
 
 /// The record of a row, where a record can hold it: `Fault::TooLong` where `is_storable` is false, or

@@ -41,7 +41,7 @@ get_other (w ∷ ws) zero v (suc k) e = refl
 get_other (w ∷ ws) (suc i) v zero e = refl
 get_other (w ∷ ws) (suc i) v (suc k) e = get_other ws i v k (no_suc i k e)
 
-others_stay : (sets : List (ℕ × Term)) (given before : List Value) (place : ℕ) → names_place sets place ≡ false
+pub others_stay : (sets : List (ℕ × Term)) (given before : List Value) (place : ℕ) → names_place sets place ≡ false
     → slice_get (set_values before (zip (map (λ s. s.0) sets) given)) place ≡ slice_get before place
 others_stay [] given before place none = refl
 others_stay (s ∷ sets) [] before place none = refl

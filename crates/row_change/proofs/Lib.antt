@@ -20,6 +20,8 @@ pub mod PlacesByName
 pub mod GivenAsMeant
 pub mod Taken
 pub mod Updates
+pub mod KeptKeys
+pub mod KeptRows
 mod SetRows
 pub mod Replaced
 pub mod SetTrees

@@ -50,14 +50,14 @@ put_first id values (r ∷ rows) climb =
     ap (λ o. by_order o ((id, values) ∷ r ∷ rows) ((r.0, values) ∷ rows) (r ∷ put int_cmp id values rows)) (sym (int_cmp_is id r.0 Less climb.0))
 
 -- without the row its rowid isn't there
-not_left : (kept : List TableRow) (r : TableRow) (rows : List TableRow) → Rises (kept ++ (r ∷ rows)) → find int_cmp r.0 (kept ++ rows) ≡ None
+pub not_left : (kept : List TableRow) (r : TableRow) (rows : List TableRow) → Rises (kept ++ (r ∷ rows)) → find int_cmp r.0 (kept ++ rows) ≡ None
 not_left [] r rows rises = not_among r.0 rows rises
 not_left (k ∷ kept) r rows rises =
     ap (λ o. cond (is_eq o) (Some k.1) (find int_cmp r.0 (kept ++ rows))) (sym (int_cmp_is r.0 k.0 Greater (climbs_over k.0 kept r rows rises)))
     ∙ not_left kept r rows (rest_rises k (kept ++ (r ∷ rows)) rises)
 
 -- and a row of it is put where it was
-put_back : (kept : List TableRow) (r : TableRow) (rows : List TableRow) (values : List Value) → Rises (kept ++ (r ∷ rows))
+pub put_back : (kept : List TableRow) (r : TableRow) (rows : List TableRow) (values : List Value) → Rises (kept ++ (r ∷ rows))
     → put int_cmp r.0 values (kept ++ rows) ≡ kept ++ ((r.0, values) ∷ rows)
 put_back [] r rows values rises = put_first r.0 values rows rises
 put_back (k ∷ kept) r rows values rises =
@@ -290,7 +290,7 @@ module _ (table : Table) (sets : List (ℕ × Term)) (is_meant : TableRow → Bo
 abbrev given_rows : List TableRow → Answer (List TableRow)
 given_rows rows = Ok rows
 
-same_answer : (answer : Answer (List TableRow)) → (answer then λ now. Ok ([] ++ now)) ≡ answer
+pub same_answer : (answer : Answer (List TableRow)) → (answer then λ now. Ok ([] ++ now)) ≡ answer
 same_answer (Ok now) = refl
 same_answer (Err f) = refl
 

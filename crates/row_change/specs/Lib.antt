@@ -5,6 +5,7 @@ pub mod Choosing
 pub mod Constraints
 pub mod Demands
 pub mod Inserting
+pub mod Keeping
 pub mod NewRows
 pub mod Putting
 pub mod RowChanges

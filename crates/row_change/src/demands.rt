@@ -3,7 +3,6 @@
 ghost use Rattle.std.specs.Prelude.{◌≡◌, ◌&&◌, ◌∷◌, [], IfErr, IfOk, map, nat_le, not};
 ghost use Rattle.std.specs.List.{list_all};
 ghost use Rattle.sqlval.specs.Faults.{IsNotDiskFault};
-ghost use Rattle.record.specs.Writing.{AreStorable};
 ghost use Rattle.catalog.specs.Listed.{as_column};
 ghost use Rattle.query_names.specs.Keys as key;
 ghost use Rattle.query_terms.specs.Outcome.{AnswersBy};
@@ -17,7 +16,6 @@ ghost use Rattle.row_change.specs.NewRows.{row_of};
 use crate::setting::env_at;
 use catalog::{Column, Table, TableRow};
 use query_terms::{SourceRow, Term, holds};
-use record::{encode, records_hold_their_values};
 use sqlval::{Fault, Many, R, Value};
 use std::alloc::Global;
 
@@ -73,16 +71,26 @@ fn can_be_stored(values: &[Value]) -> bool
     values.len() <= 1000 && are_short(values)
 }
 
+/// Copies of these values. (`Memory`.)
+fn copies_of(alloc: Global, values: &[Value]) -> R<Many<Value>>
+    ensures copied { IfOk result (λ copies. copies ≡ values.now) }
+    ensures memory { IfErr result (λ fault. fault ≡ Fault.Memory) }
+{
+    let mut copies = Vec::with_capacity(alloc, values.len())?;
+    'values: for value in values {
+        copies.push(value.copy(alloc)?)?;
+    }
+    Ok(Many::from_vec(copies))
+}
+
 /// The row as the only one of a source. (`Memory`.)
 fn source_of(alloc: Global, row: &TableRow) -> R<Many<SourceRow>>
-    requires { AreStorable (row_of row.now).1 }
     ensures row { IfOk result (λ rows. rows ≡ as_source (row_of row.now) ∷ []) }
     ensures memory { IfErr result (λ fault. fault ≡ Fault.Memory) }
 {
-    records_hold_their_values();
-    let payload = encode(alloc, &row.values)?;
+    let values = copies_of(alloc, &row.values)?;
     let mut rows = Vec::new(alloc);
-    rows.push(SourceRow::new(alloc, Some(row.rowid), None, &payload)?)?;
+    rows.push(SourceRow::made(Value::Int(row.rowid), values))?;
     Ok(Many::from_vec(rows))
 }
 

@@ -139,7 +139,7 @@ pub(crate) struct RowRecord {
 }
 
 /// The items of a slice of bytes are bytes.
-fn bytes_are_small(bytes: &[u8])
+pub(crate) fn bytes_are_small(bytes: &[u8])
     ensures { IsBytes bytes.now }
 {
     let _len = bytes.len();

@@ -168,7 +168,7 @@ fn is_integer_at(columns: &[Column], place: usize) -> bool
 }
 
 /// Whether SET names the column of a place.
-fn names_place(sets: &[(usize, Term)], place: usize) -> bool
+pub(crate) fn names_place(sets: &[(usize, Term)], place: usize) -> bool
     ensures { result ≡ law.names_place sets.now place }
 {
     sets.iter().any(|set| set.0 == place)

@@ -90,7 +90,7 @@ fn put_source_row(
         ≡ take place rows.old.items ++ as_held own (entry_in row.entry) ∷ []) result }
 {
     match rows.get_mut(place) {
-        Some(there) => there.refill(Some(row.rowid), own, row.payload)?,
+        Some(there) => there.refill(alloc, Some(row.rowid), own, row.payload)?,
         None => rows.push(source_row(alloc, own, row)?)?,
     }
     Ok(())

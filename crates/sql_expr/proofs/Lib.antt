@@ -1,4 +1,5 @@
 pub mod Again
+pub mod Climb
 pub mod Exactly
 pub mod Late
 pub mod MarkTests

@@ -1,6 +1,6 @@
 //! What stands before an operand, and what goes on after it, by the tokens that come next.
 
-ghost use Rattle.std.specs.Prelude.{◌≡◌, ◌∷◌, ℕ, List};
+ghost use Rattle.std.specs.Prelude.{◌≡◌, ◌<◌, ◌==◌, ◌∷◌, ℕ, List};
 ghost use Rattle.sql_lexer.specs.declared.keyword.Keyword.TheVariants as w;
 ghost use Rattle.sql_lexer.specs.declared.token.Token.{Token as Spelling};
 ghost use Rattle.sql_expr.specs.declared.levels.Deep.{Deep};
@@ -87,14 +87,27 @@ pub fn goes_on(rank: u8, tokens: Rest<'_>) -> bool
     }
 }
 
-/// Whether a minus or NOT of the level comes next.
-#[tactic(auto, unfolding(crate::specs::Reading::is_prefixed))]
-pub fn is_prefixed(rank: u8, tokens: Rest<'_>) -> bool
-    ensures { (whole : List Spelling) → result ≡ spec.is_prefixed rank (seen whole tokens.now) }
+/// The level whose chain goes on, and 0 where none does.
+#[tactic(auto, unfolding(crate::specs::Reading::goes_on))]
+pub fn chain_level(tokens: Rest<'_>) -> u8
+    ensures { (whole : List Spelling) (rank : ℕ) → 0 < rank
+        → spec.goes_on rank (seen whole tokens.now) ≡ (result == rank) }
 {
     match tokens {
-        [token, ..] => prefixes(token.kind) == rank,
-        [] => false,
+        [token, ..] => binds(token.kind),
+        [] => 0,
+    }
+}
+
+/// The level whose minus or NOT comes next, and 0 where none does.
+#[tactic(auto, unfolding(crate::specs::Reading::is_prefixed))]
+pub fn prefix_level(tokens: Rest<'_>) -> u8
+    ensures { (whole : List Spelling) (rank : ℕ) → 0 < rank
+        → spec.is_prefixed rank (seen whole tokens.now) ≡ (result == rank) }
+{
+    match tokens {
+        [token, ..] => prefixes(token.kind),
+        [] => 0,
     }
 }
 

@@ -1,6 +1,6 @@
 //! Expressions, a function for each kind of rule.
 
-ghost use Rattle.std.specs.Prelude.{◌≡◌, ◌<◌, ◌≤◌, ◌-◌, ◌++◌, List, Ok, Err, IfOk};
+ghost use Rattle.std.specs.Prelude.{◌≡◌, ◌<◌, ◌≤◌, ◌-◌, ◌++◌, ℕ, List, Ok, Err, IfOk, false};
 ghost use Rattle.sql_syntax.specs.Tree.{Tree};
 ghost use Rattle.sql_expr.specs.declared.refusal.Refusal.TheVariants.{TooLong};
 ghost use Rattle.sql_expr.specs.Depth.{deep};
@@ -13,7 +13,7 @@ ghost use Rattle.sql_expr.specs.Reading as spec;
 ghost use Rattle.sql_expr.specs.Reading.{Gives, ReadsBy, level_at};
 ghost use Rattle.sql_expr.specs.Seen.{deep_of, seen_all};
 
-use crate::following::{Turn, goes_on, is_prefixed, turn_of};
+use crate::following::{Turn, chain_level, goes_on, prefix_level, turn_of};
 use crate::forms::{
     Boxed, all_in_box, binary, called_of_all, closed, collate, column, in_box, leaf, literal,
     membership, over, parenthesized, raise, range, stuck, wrapped,
@@ -168,7 +168,6 @@ fn nested<'a>(
 }
 
 /// An expression of the level, where the room is for its outermost form.
-#[tactic(auto, unfolding(crate::specs::Reading::ladder))]
 #[cycle(expression)]
 fn ladder<'a>(
     alloc: Global,
@@ -181,14 +180,40 @@ fn ladder<'a>(
     requires rank { rank ≤ 10 }
     ensures { ReadsBy spelled.now tokens.now result (spec.ladder (level_at (room - 1)) room rank) }
 {
-    if rank == 0 {
-        return atom(alloc, spelled, room, tokens);
+    let level = prefix_level(tokens);
+    if level == 0 || rank < level {
+        let found = atom(alloc, spelled, room, tokens);
+        return climb(alloc, spelled, room, 0, rank, found);
     }
-    if is_prefixed(rank, tokens) {
-        return prefix(alloc, spelled, room, rank, tokens);
+    let found = prefix(alloc, spelled, room, level, tokens);
+    climb(alloc, spelled, room, level, rank, found)
+}
+
+/// What was found at the level `from`, with what goes on after it up to the level `to`. Levels between whose chains don't
+/// go on are passed over.
+#[cycle(expression)]
+fn climb<'a>(
+    alloc: Global,
+    spelled: SourceTokens<'_>,
+    room: usize,
+    from: u8,
+    to: u8,
+    found: Read<'a, Deep>,
+) -> Read<'a, Deep>
+    requires some { 0 < room }
+    requires rank { (from ≤ to) × (to ≤ 10) }
+    ensures { (ts : List Symbol)
+        → Gives (λ x. (x.0, seen spelled.now x.1.now)) found.entry (spec.ladder (level_at (room - 1)) room from ts)
+        → ((k : ℕ) → from < k → k ≤ to → spec.is_prefixed k ts ≡ false)
+        → Gives (λ x. (x.0, seen spelled.now x.1.now)) result (spec.ladder (level_at (room - 1)) room to ts) }
+{
+    let (left, rest) = found?;
+    let level = chain_level(rest);
+    if level <= from || to < level {
+        return Ok((left, rest));
     }
-    let (left, rest) = ladder(alloc, spelled, room, rank - 1, tokens)?;
-    tails(alloc, spelled, room, rank - 1, left, rest)
+    let longer = tails(alloc, spelled, room, level - 1, left, rest);
+    climb(alloc, spelled, room, level, to, longer)
 }
 
 /// A minus or NOT and its operand.

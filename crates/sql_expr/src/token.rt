@@ -23,7 +23,7 @@ pub struct TokenAt {
 pub fn all(alloc: Global, spelled: SourceTokens<'_>) -> Result<Vec<TokenAt>, AllocError>
     ensures { IfOk result (λ tokens. seen spelled.now tokens.items ≡ symbols spelled.now) }
 {
-    let mut tokens = Vec::new(alloc);
+    let mut tokens = Vec::with_capacity(alloc, spelled.len())?;
     for (place, token) in spelled.iter().enumerate() {
         let kind = token.kind;
         tokens.push(TokenAt { kind, place })?;

@@ -1,6 +1,7 @@
 pub mod Cuts
 pub mod Gaps
 pub mod Lengths
+pub mod Letters
 pub mod Part
 pub mod Parted
 pub mod Sound

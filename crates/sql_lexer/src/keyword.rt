@@ -1,8 +1,11 @@
 //! The reserved words.
 
-ghost use Rattle.std.specs.Prelude.{◌≡◌, map};
+ghost use Rattle.std.specs.Prelude.{◌≡◌, ◌<◌, ◌≤◌, ◌+◌, ◌∷◌, IfSome, length, map, slice_range};
+ghost use Rattle.std.specs.Char.{to_ascii_lowercase};
 ghost use Rattle.std.specs.Str.{str_eq_ignore_ascii_case};
+ghost use Rattle.sql_lexer.specs.declared.keyword.TheConstants.{KEYWORDS};
 ghost use Rattle.sql_lexer.specs.Lex as spec;
+ghost use Rattle.sql_lexer.specs.Lex.{Text};
 
 /// A reserved word.
 #[derive(Clone, Copy, PartialEq, Eq)]
@@ -156,6 +159,37 @@ const KEYWORDS: [(&[u8], Keyword); 72] = [
     (b"WITH", Keyword::With),
 ];
 
+/// Where the words of each letter of the alphabet begin in the table, and the table's end.
+const STARTS: [usize; 27] = [
+    0, 8, 12, 16, 23, 26, 28, 29, 29, 37, 38, 39, 41, 41, 43, 49, 51, 51, 57, 60, 64, 66, 69, 72,
+    72, 72, 72,
+];
+
+/// The number of a letter in the alphabet, from 0, whatever its case.
+fn letter_number(letter: u8) -> Option<usize>
+    ensures { IfSome result (λ n. (n < 26) × (to_ascii_lowercase letter ≡ 97 + n)) }
+{
+    match letter {
+        b'a'..=b'z' => Some((letter - b'a') as usize),
+        b'A'..=b'Z' => Some((letter - b'A') as usize),
+        _ => None,
+    }
+}
+
+/// Where a word that begins so is looked for in the table: its first place, and the place after its last.
+fn span(first: u8) -> (usize, usize)
+    ensures within { (result.0 ≤ result.1) × (result.1 ≤ length KEYWORDS) }
+    ensures same { (rest : Text)
+        → spec.lookup (slice_range (map (λ k. (k.0.now, k.1)) KEYWORDS) result.0 result.1) (first ∷ rest)
+        ≡ spec.lookup (map (λ k. (k.0.now, k.1)) KEYWORDS) (first ∷ rest) }
+{
+    match letter_number(first) {
+        Some(n) => (STARTS[n], STARTS[n + 1]),
+        None => (0, 72),
+    }
+}
+
+/// The word of a table that is spelled so, in letters of any case.
 fn lookup(mut table: &[(&[u8], Keyword)], word: &[u8]) -> Option<Keyword>
     ensures { result ≡ spec.lookup (map (λ k. (k.0.now, k.1)) table.entry.now) word.now }
 {
@@ -166,6 +200,14 @@ fn lookup(mut table: &[(&[u8], Keyword)], word: &[u8]) -> Option<Keyword>
         table = rest;
     }
     None
+}
+
+/// The word in a part of a table that is spelled so, in letters of any case.
+fn lookup_in(table: &[(&[u8], Keyword)], from: usize, to: usize, word: &[u8]) -> Option<Keyword>
+    requires { (from ≤ to) × (to ≤ length table.now) }
+    ensures { result ≡ spec.lookup (slice_range (map (λ k. (k.0.now, k.1)) table.now) from to) word.now }
+{
+    lookup(&table[from..to], word)
 }
 
 /// Whether both are the same except for the case of the ASCII letters.
@@ -180,5 +222,11 @@ fn is_same(a: &[u8], b: &[u8]) -> bool
 pub fn reserved(word: &[u8]) -> Option<Keyword>
     ensures { result ≡ spec.reserved word.now }
 {
-    lookup(&KEYWORDS, word)
+    match word {
+        [first, ..] => {
+            let (from, to) = span(*first);
+            lookup_in(&KEYWORDS, from, to, word)
+        }
+        [] => None,
+    }
 }

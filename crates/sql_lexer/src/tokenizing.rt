@@ -42,7 +42,8 @@ fn cut<'a>(alloc: Global, text: &'a str) -> R<Vec<Token<'a>>>
     if MAX_STATEMENT_BYTES < text.len() {
         return Err(Fault::TooLong);
     }
-    let mut found = Vec::new(alloc);
+    // Most statements have no more tokens than a third of their bytes.
+    let mut found = Vec::with_capacity(alloc, text.len() / 3)?;
     let mut after_minus = false;
     let mut rest = skip(text);
     'tokens: while !rest.is_empty() {

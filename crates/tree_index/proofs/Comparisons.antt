@@ -160,7 +160,7 @@ or_outside P (Err fault) memory = inl memory
 
 -- ---- the entry at a place of a page
 
-nothing : Local
+pub nothing : Local
 nothing = record { size = 0; bytes = [] }
 
 module _ (pages : PageMap) (size number place : ℕ) (node : Node) (entries : List Held) (d : Held) (has : HasEntries pages size number node entries) (lt : place < length entries) where

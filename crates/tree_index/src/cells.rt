@@ -56,7 +56,7 @@ pub(crate) fn local_in(bytes: &[u8], number: u32, place: usize) -> R<Local<'_>>
 }
 
 /// How many cells the page of these bytes has. (`Damaged` for one that is no page of a tree.)
-fn len_in(bytes: &[u8], number: u32) -> R<usize>
+pub(crate) fn len_in(bytes: &[u8], number: u32) -> R<usize>
     ensures only { (node : Node) → IsNode bytes.now (counting.start_of number) node
         → result ≡ Ok (count_of node) }
     ensures not_disk { IfErr result IsNotDiskFault }

@@ -1,12 +1,14 @@
 //! How an entry compares with those on a page.
 
-ghost use Rattle.std.specs.Prelude.{◌≡◌, ◌≤◌, ◌<◌, List, length, map, IsTrue, IfErr};
+ghost use Rattle.std.specs.Prelude.{◌≡◌, ◌≤◌, ◌<◌, ℕ, List, length, map, IsTrue, IfErr, IfSome};
 ghost use Rattle.sqlval.specs.Faults.{IsNotDiskFault, IsOrMemory};
 ghost use Rattle.sqlval.specs.Fields.{value_of};
 ghost use Rattle.sqlval.specs.Order.{order as value_order};
 ghost use Rattle.sqlval.specs.declared.value.Value.{Value as ValueIs};
 ghost use Rattle.pages.specs.Calls.{Stays};
+ghost use Rattle.pages.specs.Map.{PageMap, page_at};
 ghost use Rattle.record.specs.Record.{IsRecord};
+ghost use Rattle.tree_page.specs.Payload.{index_most};
 ghost use Rattle.tree_index.specs.Comparing.{ComparesEntry, collation_for};
 ghost use Rattle.tree_index.specs.Entries.{entry_cmp};
 
@@ -68,6 +70,31 @@ fn compare_payload(alloc: Global, key: Key<'_>, payload: &[u8]) -> R<Ordering>
 {
     let entry = Record::over(alloc, payload)?;
     Ok(compare_entry(key, &entry))
+}
+
+/// The order of a key and the entry at a place of the page of these bytes, of which `most` lie whole in a cell; None if its payload goes on in
+/// overflow pages. (As `order` refuses it.)
+pub(crate) fn order_in(
+    alloc: Global,
+    bytes: &[u8],
+    number: u32,
+    place: usize,
+    most: usize,
+    key: Key<'_>,
+) -> Option<R<Ordering>>
+    ensures found { IfSome result (λ found. (pages : PageMap) (size : ℕ)
+        → bytes.now ≡ page_at pages number → most ≡ index_most size
+        → ComparesEntry pages size number place key.entry.columns.now key.entry.values.now found) }
+    ensures not_disk { IfSome result (λ found. IfErr found IsNotDiskFault) }
+{
+    let local = match local_in(bytes, number, place) {
+        Ok(local) => local,
+        Err(fault) => return Some(Err(at_page(fault, number))),
+    };
+    if local.size > most as u64 {
+        return None;
+    }
+    Some(compare_payload(alloc, key, local.bytes))
 }
 
 /// The order of a key and the entry at a place of a page: from the page if its payload lies whole there, else from `scratch`, which it is read

@@ -1,15 +1,19 @@
 //! Where a key stands among the entries of a page.
 
-ghost use Rattle.std.specs.Prelude.{◌≡◌, IsTrue};
+ghost use Rattle.std.specs.Prelude.{◌≡◌, ℕ, IsTrue, IfErr, IfSome};
+ghost use Rattle.sqlval.specs.Faults.{IsNotDiskFault};
 ghost use Rattle.pages.specs.Calls.{Stays};
+ghost use Rattle.pages.specs.Map.{PageMap, page_at};
+ghost use Rattle.tree_page.specs.Payload.{index_most};
 ghost use Rattle.tree_index.specs.Comparing.{FindsPlace};
 ghost use Rattle.tree_index.specs.Entries.{is_passed};
 ghost use Rattle.tree_index.specs.Growing.{FindsEqual, StepsFrom};
 
-use crate::cells::{child_of, len_of};
-use crate::comparing::{Key, order};
+use crate::cells::{at_page, child_of, len_in, len_of, most_in};
+use crate::comparing::{Key, order, order_in};
 use pages::Pages;
 use sqlval::R;
+use std::alloc::Global;
 use std::cmp::Ordering;
 
 /// Where the way to an entry goes on from a page.
@@ -30,9 +34,44 @@ fn is_past(order: Ordering, after: bool) -> bool
     if after { !order.is_lt() } else { order.is_gt() }
 }
 
-/// The first place on a page whose entry isn't less than the key, or, where `after` is set, is greater, by halving. (What `len_of` and
-/// `order` refuse.)
-pub(crate) fn place_of<P: Pages>(
+/// The first place on the page of these bytes, found as `place_of` does; None if the payload of an entry that is compared goes on in overflow
+/// pages. (As `len_of` and `order_in` refuse it.)
+fn place_in(
+    alloc: Global,
+    bytes: &[u8],
+    number: u32,
+    most: usize,
+    key: Key<'_>,
+    after: bool,
+) -> Option<R<usize>>
+    ensures found { IfSome result (λ found. (pages : PageMap) (size : ℕ)
+        → bytes.now ≡ page_at pages number → most ≡ index_most size
+        → FindsPlace pages size number after key.entry.columns.now key.entry.values.now found) }
+    ensures not_disk { IfSome result (λ found. IfErr found IsNotDiskFault) }
+{
+    let mut low = 0;
+    let mut high = match len_in(bytes, number) {
+        Ok(len) => len,
+        Err(fault) => return Some(Err(at_page(fault, number))),
+    };
+    'halves: while low < high {
+        let middle = low + (high - low) / 2;
+        let order = match order_in(alloc, bytes, number, middle, most, key)? {
+            Ok(order) => order,
+            Err(fault) => return Some(Err(fault)),
+        };
+        if is_past(order, after) {
+            low = middle + 1;
+        } else {
+            high = middle;
+        }
+    }
+    Some(Ok(low))
+}
+
+/// The first place on a page, found as `place_of` does, where overflow pages may be read between its entries. (What `len_of` and `order`
+/// refuse.)
+fn place_over_chains<P: Pages>(
     pages: &mut P,
     number: u32,
     key: Key<'_>,
@@ -56,6 +95,29 @@ pub(crate) fn place_of<P: Pages>(
         }
     }
     Ok(low)
+}
+
+/// The first place on a page whose entry isn't less than the key, or, where `after` is set, is greater, by halving: on the page as it
+/// was loaded, unless an entry goes on in overflow pages. (What `load`, `len_of` and `order` refuse.)
+pub(crate) fn place_of<P: Pages>(
+    pages: &mut P,
+    number: u32,
+    key: Key<'_>,
+    after: bool,
+    scratch: &mut Vec<u8>,
+) -> R<usize>
+    ensures found { IsTrue (P.Pages.tells (P.Pages.below pages.old))
+        → FindsPlace (P.Pages.map pages.old) (P.Pages.limits (P.Pages.below pages.old)).page number
+        after key.entry.columns.now key.entry.values.now result }
+    ensures stays { Stays P.Pages.below P.Pages.map P.Pages.count P.Pages.failures result pages.old pages.new }
+{
+    pages.load(number)?;
+    let most = most_in(pages.page_size());
+    let alloc = *scratch.allocator();
+    if let Some(found) = place_in(alloc, pages.loaded(), number, most, key, after) {
+        return found;
+    }
+    place_over_chains(pages, number, key, after, scratch)
 }
 
 /// Whether the entry at a place of a page equals the key. (What `len_of` and `order` refuse.)

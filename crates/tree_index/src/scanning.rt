@@ -201,6 +201,22 @@ impl Cursor {
         }
     }
 
+    /// The place where `new` stands. The first batch has at most two records of a leaf: enough to see whether a second entry follows.
+    pub fn brief(root: u32, key: Vec<Value>, after: bool) -> Cursor
+        ensures root { result.root ≡ root }
+        ensures from { (columns : List CollationIs) (entries : List Entry)
+            → coming result.ended result.after columns result.key.items entries
+            ≡ entries_from after columns key.items entries }
+    {
+        Cursor {
+            root,
+            key,
+            after,
+            ended: false,
+            most: 2,
+        }
+    }
+
     /// Reads the records of the next entries in place of those that the batch has: at least one, unless the cursor is at the end; few at first,
     /// and more each time. (`Memory`, `Io`; for pages that aren't an index's tree, what `batch_below` and `last_values` refuse.)
     pub fn next_batch<P: Pages>(

@@ -1,8 +1,8 @@
 -- What is written is a page of the cells.
-use Rattle.std.proofs.Common.{◌≡◌, ◌⊎◌, inl, inr, ℕ, ◌+◌, ◌-◌, ◌*◌, ◌^◌, ◌<◌, ◌≤◌, List, [], ◌∷◌, ◌++◌, length, map, reverse, take, replicate, refl, sym, ap, ◌∙◌, append_assoc, arith}
+use Rattle.std.proofs.Common.{◌≡◌, ◌⊎◌, inl, inr, ℕ, ◌+◌, ◌-◌, ◌*◌, ◌^◌, ◌<◌, ◌≤◌, List, [], ◌∷◌, ◌++◌, length, map, reverse, replicate, refl, sym, ap, ◌∙◌, append_assoc, arith}
 use Rattle.std.specs.List.{AllByRecursion, flat_map}
 use Rattle.std.specs.Int.{w16, to_be_bytes}
-use Rattle.std.proofs.lemmas.List.{append-nil, reverse-append, length-append, length-replicate, take_all}
+use Rattle.std.proofs.lemmas.List.{append-nil, reverse-append, length-append, length-replicate}
 use Rattle.std.proofs.lemmas.Grind.{flat_map-append}
 use Rattle.tree_page.specs.Cells.{Span, pointer, Pairwise, IsAt, IsApart, AreApart, page_header, front, IsTreePage}
 use Rattle.tree_page.specs.Reading.{type_of}
@@ -136,7 +136,7 @@ page_built before page_size kind right cells fits =
 -- the parts of a page as they are written one after the other
 pub page_parts : (before right out0 out1 out2 out3 out4 out5 out6 : List ℕ) (page_size content written : ℕ) (kind : Kind) (cells : List (List ℕ)) → Fits page_size (length before) (length right) cells → content ≡ content_of page_size cells → out0 ≡ []
     → out1 ≡ out0 ++ before → out2 ≡ out1 ++ page_header (type_of kind) (0 ∷ 0 ∷ []) (length cells) (to_be_bytes w16 content) 0 → out3 ≡ out2 ++ right → out4 ≡ out3 ++ flat_map pointer (spans_below page_size cells)
-    → written ≡ length out4 → out5 ≡ take content out4 ++ replicate (content - written) 0 → out6 ≡ out5 ++ texts cells → out6 ≡ page_of before page_size kind right cells
+    → written ≡ length out4 → out5 ≡ out4 ++ replicate (content - written) 0 → out6 ≡ out5 ++ texts cells → out6 ≡ page_of before page_size kind right cells
 unfolding page_of
 page_parts before right out0 out1 out2 out3 out4 out5 out6 page_size content written kind cells fits c e0 e1 e2 e3 e4 w e5 e6 =
     let header = page_header (type_of kind) (0 ∷ 0 ∷ []) (length cells) (to_be_bytes w16 content) 0 in
@@ -151,6 +151,6 @@ page_parts before right out0 out1 out2 out3 out4 out5 out6 page_size content wri
     let len : length out4 ≡ floor =
     omega (arith, ap length four, length-append (before ++ (header ++ right)) pointers, length-append before (header ++ right), length-append header right, header_len (type_of kind) (length cells) content, length-pointers page_size cells) in
     let five : out5 ≡ ((before ++ (header ++ right)) ++ pointers) ++ zeros =
-    e5 ∙ ap (λ (x : List ℕ). x ++ replicate (content - written) 0) (take_all content out4 (omega arith) ∙ four) ∙ ap (λ (n : ℕ). ((before ++ (header ++ right)) ++ pointers) ++ replicate (content - n) 0) (w ∙ len) in
+    e5 ∙ ap (λ (x : List ℕ). x ++ replicate (content - written) 0) four ∙ ap (λ (n : ℕ). ((before ++ (header ++ right)) ++ pointers) ++ replicate (content - n) 0) (w ∙ len) in
     let six : out6 ≡ before ++ (header ++ (right ++ (pointers ++ (zeros ++ texts cells)))) = e6 ∙ ap (λ (x : List ℕ). x ++ texts cells) five ∙ simp append_assoc in
     six ∙ ap (λ (n : ℕ). before ++ (page_header (type_of kind) (0 ∷ 0 ∷ []) (length cells) (to_be_bytes w16 n) 0 ++ (right ++ (pointers ++ (replicate (n - floor) 0 ++ texts cells))))) c

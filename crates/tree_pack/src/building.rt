@@ -1,6 +1,6 @@
 //! Writing one page.
 
-ghost use Rattle.std.specs.Prelude.{◌≡◌, ◌≤◌, ◌<◌, ◌+◌, ◌++◌, ◌↔◌, ◌^◌, ◌-◌, [], ◌∷◌, IsTrue, length, map, reverse, min, IfOk, IfErr, OnOk};
+ghost use Rattle.std.specs.Prelude.{◌≡◌, ◌≤◌, ◌<◌, ◌+◌, ◌++◌, ◌↔◌, ◌^◌, ◌-◌, [], ◌∷◌, IsTrue, length, map, replicate, reverse, min, IfOk, IfErr, OnOk};
 ghost use Rattle.std.specs.List.{flat_map};
 ghost use Rattle.std.specs.Int.{w16, to_be_bytes};
 ghost use Rattle.tree_page.specs.Cells.{pointer, page_header, IsTreePage};
@@ -119,6 +119,19 @@ fn put_cells(out: &mut Vec<u8>, cells: &[&[u8]]) -> Result<(), AllocError>
     Ok(())
 }
 
+/// Writes so many zeros, 64 at a time.
+fn put_zeros(out: &mut Vec<u8>, count: usize) -> Result<(), AllocError>
+    ensures { OnOk result (out.new.items ≡ out.old.items ++ replicate count 0) }
+{
+    let zeros = [0; 64];
+    let mut left = count;
+    'rounds: while 64 < left {
+        out.extend_from_slice(&zeros)?;
+        left -= 64;
+    }
+    out.extend_from_slice(&zeros[..left])
+}
+
 /// The bytes of the page.
 #[tactic(auto, unfolding(crate::specs::Building::page_of))]
 pub(crate) fn write(
@@ -139,7 +152,8 @@ pub(crate) fn write(
     put_header(&mut out, kind, cells.len(), content)?;
     out.extend_from_slice(right)?;
     put_pointers(&mut out, page_size, cells)?;
-    out.resize(content, 0)?;
+    let free = content.saturating_sub(out.len());
+    put_zeros(&mut out, free)?;
     put_cells(&mut out, cells)?;
     Ok(out)
 }

@@ -28,7 +28,6 @@ mod TakingOver
 mod Lowered
 mod Settled
 mod Trimmed
-mod LastRows
 mod Exits
 mod KidCells
 mod Openings

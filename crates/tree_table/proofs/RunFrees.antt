@@ -1,22 +1,24 @@
 -- The pages of a run's old rows are given back.
-use Rattle.std.proofs.Common.{◌≡◌, ◌≤◌, ◌<◌, ◌+◌, ℕ, zero, suc, ℤ, pos, Bool, IsTrue, List, [], ◌∷◌, ◌++◌, length, slice_index_or, Ok, Err, sym, ap, subst, ◌∙◌, arith}
+use Rattle.std.proofs.Common.{◌≡◌, ◌≤◌, ◌<◌, ◌+◌, ℕ, zero, suc, ℤ, pos, Bool, IsTrue, List, [], ◌∷◌, ◌++◌, length, slice_index_or, Ok, Err, refl, sym, ap, subst, ◌∙◌, arith}
 use Rattle.std.proofs.lemmas.List.{length-map, get_or-map}
-use Rattle.std.specs.Prelude.{⊤, Result, MatchResult}
+use Rattle.std.specs.Prelude.{⊤, All, Result, MatchResult}
+use Rattle.std.specs.List.{flat_map}
 use Rattle.sqlval.specs.declared.fault.Fault.{Fault}
 use Rattle.sqlval.specs.Faults.{IsOutside}
 use Rattle.pages.specs.Calls.{Limits, Causes}
-use Rattle.pages.specs.Counting.{occurs, IsOnce}
-use Rattle.pages.specs.Map.{PageMap}
+use Rattle.pages.specs.Counting.{occurs, IsOnce, start_of}
+use Rattle.pages.specs.Map.{PageMap, page_at}
 use Rattle.pages.proofs.Moving.{occurs_append}
-use Rattle.tree_page.specs.Node.{Local, Rows}
+use Rattle.tree_page.specs.Node.{Local, Rows, IsNode}
 use Rattle.tree_page.specs.Payload.{table_most}
 use Rattle.tree_store.specs.Saying.{Says}
 use Rattle.tree_table.specs.Freeing.{AreGivenBack, FreesRow}
 use Rattle.tree_table.specs.Growing.{IsUnder}
 use Rattle.tree_table.specs.Runs.{AreRising, none_held, picked}
 use Rattle.tree_table.specs.Tree.{Held, IsHeldAs, Leaf}
-use Rattle.tree_table.proofs.Givings.{chain_of, up_to, up_to_more, among, after_part, given_then}
+use Rattle.tree_table.proofs.Givings.{chain_of, up_to, up_to_more, among, after_part, given_then, no_pages, none_given}
 use Rattle.tree_table.proofs.LeafRows.{said_there}
+use Rattle.tree_table.proofs.Pieces.{says_it}
 use Rattle.tree_table.proofs.RunLists.{kept_pages}
 use Rattle.tree_table.proofs.Staying.{first_of, payload_stays, says_stays}
 
@@ -71,6 +73,28 @@ module _ (old : PageMap) (size number ways : ℕ) (rowid low : ℤ) (t : Leaf) (
           (ap (λ (h : Held). up_to chain_of i freed ++ chain_of h) (sym slot) ∙ sym (up_to_more chain_of i freed none_held (let e = length-map places (λ place. slice_index_or t.rows place none_held) in omega (arith, e, lt))))
           (given_then old now new size (up_to chain_of i freed) held.pages free given more)
       by_result held slot (Err fault) outside = outside
+
+  none_go_on : (from : ℕ) (ps : List ℕ) → AreRising from (length t.rows) ps
+      → All (λ place. place < length (under.lies).said → (slice_index_or (under.lies).said place item).1.size ≤ table_most size) ps → flat_map chain_of (picked t.rows ps) ≡ []
+  none_go_on from [] rise short = refl
+  none_go_on from (place ∷ ps) rise short =
+      let there = said_there old size (under.lies).said t.rows place item none_held (under.lies).rows rise.1 in
+      let held = slice_index_or t.rows place none_held in
+      let fits : (slice_index_or (under.lies).said place item).1.size ≤ table_most size = short 0 0 (omega arith) there.0 in
+      let le : length held.row.payload ≤ table_most size = (let e = (there.1).size in omega (arith, e, fits)) in
+      let none = no_pages old size _ held.row.payload held.pages (there.1).payload le in
+      ap (λ (chain : List ℕ). chain ++ flat_map chain_of (picked t.rows ps)) none ∙ none_go_on (suc place) ps rise.2 (λ k d lt. short (suc k) d (omega (arith, lt)))
+
+  -- where no row at the places goes on over other pages, there is nothing to give back
+  pub all_short : (bytes : List ℕ) (most : ℕ) → bytes ≡ page_at old number → most ≡ table_most size
+      → ((said : List (ℤ × Local)) (d : ℤ × Local) → IsNode bytes (start_of number) (Rows said) → All (λ place. place < length said → (slice_index_or said place d).1.size ≤ most) places)
+      → AreGivenBack old old size (flat_map (λ held. held.pages) freed) free
+  all_short bytes most read is short =
+      let said = (under.lies).said in
+      let says : Says old number (Rows said) = subst (λ (n : ℕ). Says old n (Rows said)) under.top_is (under.lies).says in
+      let all = short said item (says_it old number bytes (Rows said) says read) in
+      let within = subst (λ (n : ℕ). All (λ place. place < length said → (slice_index_or said place item).1.size ≤ n) places) is all in
+      subst (λ (chain : List ℕ). AreGivenBack old old size chain free) (sym (none_go_on 0 places rise within)) (none_given old size free under.free_are)
 
 module _ {P K : Type 0} (below : P → K) (tells : K → Bool) (limits : K → Limits) (pages : P → PageMap) (failures : P → ℕ × ℕ) where
   -- The rows at the first places were given back.

@@ -22,5 +22,5 @@ pub use changing::{RowChange, change_rows, remove};
 pub use finding::{get, last, next_rowid};
 pub use freeing::{clear, free_tree, new_tree};
 pub use inserting::insert;
-pub use laws::{one_table_tree, rows_come_last, table_trees_stay};
+pub use laws::{one_table_tree, table_trees_stay};
 pub use scanning::{Batch, BatchEntry, BatchRow, Cursor};

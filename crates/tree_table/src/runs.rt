@@ -1,9 +1,12 @@
 //! Changing a run of rows, those that stand on one leaf of a table's tree.
 
-ghost use Rattle.std.specs.Prelude.{◌≡◌, ◌<◌, ◌≤◌, length, map, IsTrue, IfOk, IfErr};
+ghost use Rattle.std.specs.Prelude.{◌≡◌, ◌<◌, ◌≤◌, ℤ, ⊤, All, List, length, map, slice_index_or, IsTrue, IfOk, IfErr, MatchOption, MatchResult};
 ghost use Rattle.sqlval.specs.Faults.{IsNotDiskFault};
 ghost use Rattle.pages.specs.Calls.{Causes};
+ghost use Rattle.pages.specs.Counting as counting;
+ghost use Rattle.tree_page.specs.Node.{Local, Rows, IsNode};
 ghost use Rattle.tree_table.specs.Runs.{AppendsRow, ChangesBelow, ChangesLeaf, Exchanges, FindsPlace, FindsRun, FreesRun, IsFirst, room_for, WritesRow, WritesRows};
+ghost use Rattle.tree_table.specs.Stepping.{HasRowid};
 
 use crate::changing::RowChange;
 use crate::descending::{Step, look, step_from};
@@ -28,8 +31,23 @@ fn room_for(change: &RowChange, size: usize) -> usize
     }
 }
 
+/// The place after this one on a leaf of these bytes, if the row there has this rowid. (`Damaged` for another page.)
+fn place_after(bytes: &[u8], start: usize, last: usize, rowid: i64) -> R<Option<usize>>
+    ensures found { (said : List (ℤ × Local)) → IsNode bytes.now start (Rows said)
+        → MatchResult result (λ found. MatchOption found ⊤ (λ place. (last < place)
+        × HasRowid rowid said place)) (λ fault. ⊥) }
+    ensures not_disk { IfErr result IsNotDiskFault }
+{
+    let page = TreePage::over(bytes, start)?;
+    let place = last.saturating_add(1);
+    if place < page.len() && page.row(place)?.rowid == rowid {
+        return Ok(Some(place));
+    }
+    Ok(None)
+}
+
 /// The place of a change's row on a leaf of these bytes, if it stands there after a place and its new cell takes no more than this room.
-/// (`Damaged` for another page.)
+/// Most often it is the next place. (`Damaged` for another page.)
 fn next_place(
     bytes: &[u8],
     start: usize,
@@ -40,9 +58,15 @@ fn next_place(
     ensures found { FindsPlace bytes.now start last room change.now result }
     ensures not_disk { IfErr result IsNotDiskFault }
 {
+    if room < room_for(change, bytes.len()) {
+        return Ok(None);
+    }
+    if let Some(place) = place_after(bytes, start, last, change.rowid)? {
+        return Ok(Some(place));
+    }
     match look(bytes, start, change.rowid)? {
         Step::Found(place) => {
-            if last < place && room_for(change, bytes.len()) <= room {
+            if last < place {
                 return Ok(Some(place));
             }
             Ok(None)
@@ -83,7 +107,28 @@ fn run_in(
     Ok(places)
 }
 
-/// Gives the pages back over which the rows at these places of a leaf go on. (What `free_row` refuses.)
+/// Whether the rows at these places of a leaf of these bytes have payloads of at most so many bytes each. (Also `false` where there is no such
+/// row.)
+fn are_short(bytes: &[u8], leaf: u32, places: &[usize], most: u64) -> bool
+    ensures { IsTrue result → (said : List (ℤ × Local)) (d : ℤ × Local)
+        → IsNode bytes.now (counting.start_of leaf) (Rows said)
+        → All (λ place. place < length said → (slice_index_or said place d).1.size ≤ most) places.now }
+{
+    let Ok(page) = TreePage::over(bytes, start_of(leaf)) else {
+        return false;
+    };
+    'places: for place in places {
+        let Ok(row) = page.row(*place) else {
+            return false;
+        };
+        if row.payload.size > most {
+            return false;
+        }
+    }
+    true
+}
+
+/// Gives the pages back over which the rows at these places of a leaf go on, if there are any. (What `load` and `free_row` refuse.)
 fn free_run<P: WritePages>(alloc: Global, pages: &mut P, leaf: u32, places: &[usize]) -> R<()>
     ensures freed { IsTrue (P.Pages.tells (P.Pages.below pages.old))
         → FreesRun (P.Pages.map pages.old) (P.Pages.map pages.new)
@@ -91,6 +136,11 @@ fn free_run<P: WritePages>(alloc: Global, pages: &mut P, leaf: u32, places: &[us
     ensures kept { P.Pages.below pages.new ≡ P.Pages.below pages.old }
     ensures causes { Causes result (P.Pages.failures pages.old) (P.Pages.failures pages.new) ⊥ }
 {
+    pages.load(leaf)?;
+    let most = pages.page_size().saturating_sub(35);
+    if are_short(pages.loaded(), leaf, places, most as u64) {
+        return Ok(());
+    }
     'places: for place in places {
         free_row(alloc, pages, leaf, *place)?;
     }

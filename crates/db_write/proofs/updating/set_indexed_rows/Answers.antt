@@ -1,43 +1,28 @@
-use Rattle.std.proofs.Common.{◌∙◌, ℕ, List, map, subst, Ok, Err}
-use Rattle.std.specs.Prelude.{⊤}
-use Rattle.pages.specs.Map.{PageMap}
+use Rattle.std.proofs.Common.{ℕ, List, map, subst}
 use Rattle.catalog.specs.declared.tables.Index.{Index}
 use Rattle.catalog.specs.declared.tables.TableRow.{TableRow}
-use Rattle.row_change.specs.Updating.{SetsRows}
 use Rattle.index_entries.specs.Keeping.{row_in}
 use Rattle.db_write.specs.Turning.{ReplacesInIndexes}
-use Rattle.db_write.proofs.Looping.{after_reading, since}
-use Rattle.db_write.proofs.Updated.{indexed_set, none_copied, none_read, none_set}
+use Rattle.db_write.proofs.Looping.{since}
+use Rattle.db_write.proofs.Updated.{indexed_set, none_copied, none_set}
 use Rattle.db_write.proofs.updating.set_indexed_rows.Goals as goal
 
-pub returns-in_err-rows-clause-updated : goal.returns-in_err-rows-clause-updated
-returns-in_err-rows-clause-updated g c = λ told.
-    (let pages = g.P.Pages in
-    none_read (pages.map c.args.pages.now) (pages.map c.enough_rows.new.pages) (pages.limits (pages.below c.args.pages.now)).page c.args.table.now c.args.condition.now c.args.sets.now
-    c.in_err-rows.field-0.0 c.from_residual.result c.from_residual.ensures.1 (c.in_err-rows.ensures.loaded told))
-
 pub returns-in_err-gone-clause-updated : goal.returns-in_err-gone-clause-updated
-returns-in_err-gone-clause-updated g c = λ told.
-    (let pages = g.P.Pages in
-    none_copied (pages.map c.args.pages.now) (pages.map c.enough_rows.new.pages) (pages.limits (pages.below c.args.pages.now)).page c.args.table.now c.args.condition.now c.args.sets.now
-    c.in_ok-rows.rows (c.in_ok-rows.ensures.loaded told) c.in_err-gone.field-0.0 c.from_residual-in_err-gone.result c.from_residual-in_err-gone.ensures.1 c.in_err-gone.ensures.found)
-
-pub returns-in_err-new-clause-updated : goal.returns-in_err-new-clause-updated
-returns-in_err-new-clause-updated g c = λ told.
+returns-in_err-gone-clause-updated g c = λ told loads.
     (let pages = g.P.Pages in
     let old = pages.map c.args.pages.now in
-    let new = pages.map c.set_new_rows.new.pages in
-    let table = c.args.table.now in
-    let rows = c.in_ok-rows.rows in
-    let fault = c.in_err-new.field-0.0 in
-    let stays = c.in_ok-rows.ensures.stays in
-    let sets_so = after_reading pages.below pages.tells pages.limits pages.map c.args.pages.now c.enough_rows.new.pages
-    (λ (m : PageMap) (n : ℕ). SetsRows {X = ⊤} m new n table.root table c.args.sets.now c.args.condition.now rows (Err fault)) stays.kept stays.same c.in_err-new.ensures.set told in
-    none_set old new (pages.limits (pages.below c.args.pages.now)).page table c.args.condition.now c.args.sets.now c.rows_without_keys_are_free.ensures c.requires.plain c.requires.kept rows (c.in_ok-rows.ensures.loaded told)
-    fault c.from_residual-in_err-new.result c.from_residual-in_err-new.ensures.1 sets_so)
+    none_copied old old (pages.limits (pages.below c.args.pages.now)).page c.args.table.now c.args.condition.now c.args.sets.now
+    c.args.rows.now loads c.in_err-gone.field-0.0 c.from_residual.result c.from_residual.ensures.1 c.in_err-gone.ensures.found)
+
+pub returns-in_err-new-clause-updated : goal.returns-in_err-new-clause-updated
+returns-in_err-new-clause-updated g c = λ told loads.
+    (let pages = g.P.Pages in
+    none_set (pages.map c.args.pages.now) (pages.map c.set_new_rows.new.pages) (pages.limits (pages.below c.args.pages.now)).page c.args.table.now c.args.condition.now c.args.sets.now
+    c.rows_without_keys_are_free.ensures c.requires.plain c.requires.kept c.args.rows.now loads
+    c.in_err-new.field-0.0 c.from_residual-in_err-new.result c.from_residual-in_err-new.ensures.1 (c.in_err-new.ensures.set told))
 
 pub returns-clause-updated : goal.returns-clause-updated
-returns-clause-updated g c = λ told.
+returns-clause-updated g c = λ told loads.
     (let pages = g.P.Pages in
     let start = c.args.pages.now in
     let old = pages.map start in
@@ -45,15 +30,12 @@ returns-clause-updated g c = λ told.
     let new = pages.map c.replace_in_indexes.new.pages in
     let size = (pages.limits (pages.below start)).page in
     let table = c.args.table.now in
-    let rows = c.in_ok-rows.rows in
+    let rows = c.args.rows.now in
     let result = c.replace_in_indexes.result in
-    let stays = c.in_ok-rows.ensures.stays in
-    let sets_so = after_reading pages.below pages.tells pages.limits pages.map start c.enough_rows.new.pages
-    (λ (m : PageMap) (n : ℕ). SetsRows {X = ⊤} m (pages.map mid) n table.root table c.args.sets.now c.args.condition.now rows (Ok tt)) stays.kept stays.same c.in_ok-new.ensures.set told in
     let replaces = since pages.below pages.tells pages.limits start mid (λ (n : ℕ). ReplacesInIndexes (pages.map mid) new n c.as_slice.result.now (map row_in c.deref.result.now) (map row_in c.deref-2.result.now) result)
-    (c.in_ok-new.ensures.kept ∙ stays.kept) c.replace_in_indexes.ensures.replaced told in
-    indexed_set old (pages.map mid) size table c.args.condition.now c.args.sets.now c.rows_without_keys_are_free.ensures c.requires.plain c.requires.kept rows (c.in_ok-rows.ensures.loaded told) c.in_ok-gone.gone c.in_ok-new.new
-    c.in_ok-gone.ensures.found sets_so c.in_ok-new.ensures.rows new result
+    c.in_ok-new.ensures.kept c.replace_in_indexes.ensures.replaced told in
+    indexed_set old (pages.map mid) size table c.args.condition.now c.args.sets.now c.rows_without_keys_are_free.ensures c.requires.plain c.requires.kept rows loads c.in_ok-gone.gone c.in_ok-new.new
+    c.in_ok-gone.ensures.found (c.in_ok-new.ensures.set told) c.in_ok-new.ensures.rows new result
     (subst (λ (them : List Index). ReplacesInIndexes (pages.map mid) new size them (map row_in c.in_ok-gone.gone.items) (map row_in c.in_ok-new.new.items) result) c.as_slice.ensures
     (subst (λ (come : List TableRow). ReplacesInIndexes (pages.map mid) new size c.as_slice.result.now (map row_in c.in_ok-gone.gone.items) (map row_in come) result) c.deref-2.ensures.value
     (subst (λ (gone : List TableRow). ReplacesInIndexes (pages.map mid) new size c.as_slice.result.now (map row_in gone) (map row_in c.deref-2.result.now) result) c.deref.ensures.value replaces))))

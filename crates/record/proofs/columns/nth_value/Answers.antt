@@ -1,5 +1,4 @@
-use Rattle.std.proofs.Common.{◌≡◌, ◌∙◌, ap, arith, length, ◌-◌, ◌<◌, ℕ}
-use Rattle.sqlval.specs.Fields.{value_of}
+use Rattle.std.proofs.Common.{◌≡◌, ◌∙◌, ap, arith, length, ◌-◌, ℕ}
 use Rattle.record.specs.Columns.{values_from}
 use Rattle.record.proofs.InPlace.{nth, nth_here, nth_on}
 use Rattle.record.proofs.columns.nth_value.Goals as goal

@@ -23,8 +23,11 @@ decreases-items l = l.room * 64 + 4
 abbrev pub decreases-items_from : goal.decreases-items_from
 decreases-items_from l = l.room * 64 + 3
 
+abbrev pub decreases-climb : goal.decreases-climb
+decreases-climb l = l.room * 64 + 11 + (l.to - l.from)
+
 abbrev pub decreases-ladder : goal.decreases-ladder
-decreases-ladder l = l.room * 64 + 20 + l.rank
+decreases-ladder l = l.room * 64 + 22
 
 abbrev pub decreases-level : goal.decreases-level
 decreases-level l = l.room * 64 + 63

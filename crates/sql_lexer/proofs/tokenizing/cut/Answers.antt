@@ -66,5 +66,5 @@ returns-in_err-kind-clause-exact c =
     let some : 0 < length rest = grind (arith, common_steps) in
     let e : front (length z - length rest) c.tokens.after_minus rest ≡ Err fault =
     ap (front (length z - length rest) c.tokens.after_minus) (sym c.as_bytes.ensures.value) ∙ sym c.in_err-kind.ensures.value in
-    gives_err _ c.from_residual.result fault (tokens z) c.from_residual.ensures.1
+    gives_err _ c.from_residual-in_err-kind.result fault (tokens z) c.from_residual-in_err-kind.ensures.1
     (whole z (omega arith) ∙ refused_after (map seen found) (length z - length found) (length z) c.tokens.after_minus rest fault _ (omega arith) some e c.tokens.invariant.read)

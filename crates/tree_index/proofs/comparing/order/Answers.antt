@@ -1,14 +1,10 @@
 use Rattle.std.proofs.Common.{rules, ◌≡◌, ◌∙◌, ◌≤◌, ◌++◌, ℕ, List, [], length, sym, ap, subst, slice_index_or, Ok, Err, arith}
 use Rattle.record.specs.Record.{IsRecord}
-use Rattle.tree_page.specs.Node.{Local}
 use Rattle.tree_page.specs.Payload.{index_most}
 use Rattle.tree_page.specs.Reading.{local_of}
-use Rattle.tree_index.proofs.Comparisons.{local_within, held_at, or_outside, payload_read}
+use Rattle.tree_index.proofs.Comparisons.{local_within, held_at, nothing, or_outside, payload_read}
 use Rattle.tree_index.proofs.Readings.{refused, says_it, lies_whole}
 use Rattle.tree_index.proofs.comparing.order.Goals as goal
-
-nothing : Local
-nothing = record { size = 0; bytes = [] }
 
 pub returns-in-Err-clause-found : goal.returns-in-Err-clause-found
 returns-in-Err-clause-found g c = λ told node entries d whole has lt.

@@ -1,31 +1,19 @@
-use Rattle.std.proofs.Common.{◌+◌, ◌-◌, ◌/◌, sym, ◌∙◌, arith}
-use Rattle.tree_index.proofs.Halving.{begins, unread, above, under}
-use Rattle.tree_index.proofs.Readings.{refused}
+use Rattle.std.proofs.Common.{◌∙◌, ap}
+use Rattle.tree_page.specs.Payload.{index_most}
+use Rattle.tree_index.specs.Comparing.{FindsPlace}
+use Rattle.tree_index.proofs.Readings.{since}
 use Rattle.tree_index.proofs.placing.place_of.Goals as goal
 
-pub halves-init : goal.halves-init
-halves-init g c =
+pub returns-in-Some-clause-found : goal.returns-in-Some-clause-found
+returns-in-Some-clause-found g c = λ told.
     (let gs = g.P.Pages in
-    begins gs.below gs.tells gs.limits gs.map gs.count gs.failures c.args.pages.now c.len_of.new.pages c.args.number c.args.after c.args.key.columns.now c.args.key.values.now c.in_ok-high.high c.in_ok-high.ensures.stays c.in_ok-high.ensures.counted)
+    let old = c.args.pages.now in
+    let most = c.most_in-most.ensures ∙ ap index_most (c.page_size.ensures ∙ ap (λ k. (gs.limits k).page) c.in_ok-load.ensures.stays.kept) in
+    c.in-Some.ensures.found (gs.map old) (gs.limits (gs.below old)).page (c.loaded.ensures ∙ c.in_ok-load.ensures.bytes told) most)
 
-pub returns-in_err-order-clause-found : goal.returns-in_err-order-clause-found
-returns-in_err-order-clause-found g c = λ told node entries whole has first.
+pub returns-clause-found : goal.returns-clause-found
+returns-clause-found g c =
     (let gs = g.P.Pages in
-    let middle = c.halves.low + (c.halves.high - c.halves.low) / 2 in
-    refused _ _ c.in_err-order.field-0.0 c.from_residual-in_err-order.ensures.1
-    (unread gs.below gs.tells gs.limits gs.map gs.count gs.failures c.args.pages.now c.halves.pages c.order.new.pages c.args.number c.args.after c.args.key.columns.now c.args.key.values.now c.halves.low c.halves.high middle c.halves.invariant
-    (omega arith) (omega (arith, c.halves-test.true)) c.in_err-order.field-0.0 c.in_err-order.ensures.found told node entries whole has first))
-
-pub halves-preserved-then-is_past : goal.halves-preserved-then-is_past
-halves-preserved-then-is_past g c =
-    (let gs = g.P.Pages in
-    let middle = c.halves.low + (c.halves.high - c.halves.low) / 2 in
-    above gs.below gs.tells gs.limits gs.map gs.count gs.failures c.args.pages.now c.halves.pages c.order.new.pages c.args.number c.args.after c.args.key.columns.now c.args.key.values.now c.halves.low c.halves.high middle c.halves.invariant
-    (omega arith) (omega (arith, c.halves-test.true)) c.in_ok-order.order c.in_ok-order.ensures.found c.in_ok-order.ensures.stays (sym c.is_past.ensures ∙ c.if-is_past.true))
-
-pub halves-preserved : goal.halves-preserved
-halves-preserved g c =
-    (let gs = g.P.Pages in
-    let middle = c.halves.low + (c.halves.high - c.halves.low) / 2 in
-    under gs.below gs.tells gs.limits gs.map gs.count gs.failures c.args.pages.now c.halves.pages c.order.new.pages c.args.number c.args.after c.args.key.columns.now c.args.key.values.now c.halves.low c.halves.high middle c.halves.invariant
-    (omega arith) (omega (arith, c.halves-test.true)) c.in_ok-order.order c.in_ok-order.ensures.found c.in_ok-order.ensures.stays (sym c.is_past.ensures ∙ c.if-is_past.false))
+    let stays = c.in_ok-load.ensures.stays in
+    since gs.below gs.tells gs.limits gs.map (λ m n. FindsPlace m n c.args.number c.args.after c.args.key.columns.now c.args.key.values.now c.place_over_chains.result) c.args.pages.now c.load.new.self stays.kept stays.same
+    c.place_over_chains.ensures.found)

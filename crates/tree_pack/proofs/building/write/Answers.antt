@@ -1,4 +1,4 @@
-use Rattle.std.proofs.Common.{◌≡◌, ℕ, [], ◌∷◌, ◌++◌, ◌-◌, ◌*◌, length, map, sym, ap, ◌∙◌, arith}
+use Rattle.std.proofs.Common.{rules, ◌≡◌, ℕ, [], ◌∷◌, ◌++◌, ◌-◌, ◌*◌, length, map, replicate, refl, sym, ap, ◌∙◌, arith}
 use Rattle.std.proofs.lemmas.List.{length-map}
 use Rattle.std.specs.Int.{w16, to_be_bytes}
 use Rattle.tree_page.specs.Cells.{page_header}
@@ -33,7 +33,9 @@ returns c =
     let len = length-map c.args.cells.now (λ cell. cell.now) in
     let content = c.args.page_size - (c.room_of.result - 2 * length c.args.cells.now) in
     let content_is : content ≡ content_of c.args.page_size cells = omega (arith, room, room_is cells, len, c.room_of.ensures) in
-    page_parts c.args.front.now c.args.right.now c.in_ok-out.out.items c.extend_from_slice.new.self.items c.put_header.new.out.items c.extend_from_slice-2.new.self.items c.put_pointers.new.out.items c.resize.new.self.items c.put_cells.new.out.items
-    c.args.page_size content c.put_pointers.new.out.len c.args.kind cells c.requires content_is c.in_ok-out.ensures.items c.in_ok-extend_from_slice.ensures.items
+    let out = c.put_pointers.new.out.items in
+    let free : c.saturating_sub-free.result ≡ content - length out = search rules in
+    page_parts c.args.front.now c.args.right.now c.in_ok-out.out.items c.extend_from_slice.new.self.items c.put_header.new.out.items c.extend_from_slice-2.new.self.items out c.put_zeros.new.out.items c.put_cells.new.out.items
+    c.args.page_size content (length out) c.args.kind cells c.requires content_is c.in_ok-out.ensures.items c.in_ok-extend_from_slice.ensures.items
     (c.in_ok-put_header.ensures ∙ ap (λ (n : ℕ). c.extend_from_slice.new.self.items ++ page_header (type_of c.args.kind) (0 ∷ 0 ∷ []) n (to_be_bytes w16 content) 0) (sym len))
-    c.in_ok-extend_from_slice-2.ensures.items c.in_ok-put_pointers.ensures c.put_pointers.new.out.ok.0 c.in_ok-resize.ensures.items c.in_ok-put_cells.ensures
+    c.in_ok-extend_from_slice-2.ensures.items c.in_ok-put_pointers.ensures refl (c.in_ok-put_zeros.ensures ∙ ap (λ (n : ℕ). out ++ replicate n 0) free) c.in_ok-put_cells.ensures

@@ -1,0 +1,54 @@
+use Rattle.std.proofs.Common.{◌≡◌, ◌∙◌, false, sym, subst, List, map, Ok, Err}
+use Rattle.std.specs.Prelude.{IfSome}
+use Rattle.catalog.specs.declared.tables.Index.{Index}
+use Rattle.catalog.specs.declared.tables.TableRow.{TableRow}
+use Rattle.row_change.specs.Agreement.{has_unique}
+use Rattle.row_change.specs.Keeping.{KeepsAll}
+use Rattle.index_entries.specs.Keeping.{row_in}
+use Rattle.db_write.specs.Kept.{SeeAlone}
+use Rattle.db_write.proofs.KeptAlone.{finds_alone, finds_free, finds_unread}
+use Rattle.db_write.proofs.updating.changes_alone.Goals as goal
+
+pub returns-then-not-has_unique-clause-found : goal.returns-then-not-has_unique-clause-found
+returns-then-not-has_unique-clause-found g c = λ told.
+    (let pages = g.P.Pages in
+    let table = c.args.table.now in
+    let condition = c.args.condition.now in
+    let sets = c.args.sets.now in
+    let rows = c.args.rows.now in
+    let keeps = subst (λ found. IfSome found (λ changes. KeepsAll table sets condition rows changes.items)) c.in-Some.is c.in_ok-changes.ensures.kept in
+    let none : has_unique table ≡ false = sym c.has_unique.ensures ∙ c.if-not-has_unique.true in
+    finds_free (pages.map c.args.pages.now) (pages.limits (pages.below c.args.pages.now)).page table condition sets rows c.kept_rows_stay_alone.ensures c.in-Some.changes keeps none)
+
+pub returns-in_err-are_alone-clause-found : goal.returns-in_err-are_alone-clause-found
+returns-in_err-are_alone-clause-found g c = λ told.
+    (let pages = g.P.Pages in
+    let old = pages.map c.args.pages.now in
+    let size = (pages.limits (pages.below c.args.pages.now)).page in
+    let table = c.args.table.now in
+    let condition = c.args.condition.now in
+    let sets = c.args.sets.now in
+    let rows = c.args.rows.now in
+    let meant = c.in_ok-meant.meant in
+    let fault = c.in_err-are_alone.field-0.0 in
+    let keeps = subst (λ found. IfSome found (λ changes. KeepsAll table sets condition rows changes.items)) c.in-Some.is c.in_ok-changes.ensures.kept in
+    let sees = subst (λ (indexes : List Index). SeeAlone old size indexes (map row_in meant.items) (Err fault)) c.as_slice.ensures
+    (subst (λ (them : List TableRow). SeeAlone old size c.as_slice.result.now (map row_in them) (Err fault)) c.deref.ensures.value (c.in_err-are_alone.ensures.seen told)) in
+    finds_unread old size table condition sets rows c.kept_rows_stay_alone.ensures c.in-Some.changes keeps meant c.in_ok-meant.ensures.found
+    fault c.from_residual-in_err-are_alone.result c.from_residual-in_err-are_alone.ensures.1 sees)
+
+pub returns-then-branch-clause-found : goal.returns-then-branch-clause-found
+returns-then-branch-clause-found g c = λ told.
+    (let pages = g.P.Pages in
+    let old = pages.map c.args.pages.now in
+    let size = (pages.limits (pages.below c.args.pages.now)).page in
+    let table = c.args.table.now in
+    let condition = c.args.condition.now in
+    let sets = c.args.sets.now in
+    let rows = c.args.rows.now in
+    let meant = c.in_ok-meant.meant in
+    let alone = c.in_ok-are_alone.field-0 in
+    let keeps = subst (λ found. IfSome found (λ changes. KeepsAll table sets condition rows changes.items)) c.in-Some.is c.in_ok-changes.ensures.kept in
+    let sees = subst (λ (indexes : List Index). SeeAlone old size indexes (map row_in meant.items) (Ok alone)) c.as_slice.ensures
+    (subst (λ (them : List TableRow). SeeAlone old size c.as_slice.result.now (map row_in them) (Ok alone)) c.deref.ensures.value (c.in_ok-are_alone.ensures.seen told)) in
+    finds_alone old size table condition sets rows c.kept_rows_stay_alone.ensures c.in-Some.changes keeps meant c.in_ok-meant.ensures.found alone c.if-branch.true sees)

@@ -1,0 +1,60 @@
+-- Rows that an UPDATE sets and that keep their rowids and keys, beside UNIQUE indexes (SQL As Understood By SQLite, "UPDATE"; "CREATE INDEX",
+-- "Unique Indexes").
+use Rattle.std.specs.Prelude.{◌≡◌, ℕ, Bool, true, false, IsTrue, IfSome, List, ◌∷◌, ◌++◌, Option, Result, MatchResult}
+use Rattle.std.specs.Global.{Vec}
+use Rattle.std.specs.List.{AllByRecursion, list_any}
+use Rattle.sqlval.specs.Faults.{IsOutside}
+use Rattle.sqlval.specs.PageSizes.{IsPageSize}
+use Rattle.sqlval.specs.declared.fault.Fault.{Fault}
+use Rattle.pages.specs.Map.{AreWhole, PageMap}
+use Rattle.tree_table.specs.declared.changing.RowChange.{RowChange}
+use Rattle.db_layout.specs.Layout.{Owner}
+use Rattle.catalog.specs.Listed.{with_rows}
+use Rattle.catalog.specs.Rows.{are_rows}
+use Rattle.catalog.specs.declared.tables.Index.{Index}
+use Rattle.catalog.specs.declared.tables.Table.{Table}
+use Rattle.query_terms.specs.Terms.{Term}
+use Rattle.query_terms.specs.Values.{Row}
+use Rattle.row_scan.specs.Rows.{TableRow}
+use Rattle.row_search.specs.Found.{HasEntriesOf}
+use Rattle.row_change.specs.Keeping.{AreKeptBy}
+use Rattle.row_change.specs.Meaning.{AreEnough}
+use Rattle.row_change.specs.Setting.{rows_set, rows_set_each}
+use Rattle.index_entries.specs.Alone.{clashes}
+use Rattle.index_entries.specs.Entries.{AreApart}
+use Rattle.db_layout.specs.Trees.{AreAmong, columns_of}
+use Rattle.db_write.specs.Changing.{IsRefusedUpdate}
+use Rattle.db_write.specs.OneRow.{IsOneOf}
+
+-- wherever it stands among the rows, the row clashes with none of the others in the index
+abbrev pub ClashesWithNone : List TableRow → Index → TableRow → Type 0
+ClashesWithNone rows index row = (before after : List TableRow) → before ++ row ∷ after ≡ rows → list_any (clashes (columns_of index) row) (before ++ after) ≡ false
+
+-- where the index is UNIQUE, each of these clashes with none of the others
+abbrev pub AreAloneIn : List TableRow → List TableRow → Index → Type 0
+AreAloneIn rows those index = index.is_unique ≡ true → AllByRecursion (ClashesWithNone rows index) those
+
+-- Where an index's tree has the entries of rows, among which these are, each of these is seen to clash with none of the others, where the index is
+-- UNIQUE, or it isn't said; or memory was short, or a disk's call failed.
+abbrev pub SeesAlone : PageMap → ℕ → Index → List TableRow → Result Bool Fault → Type 0
+SeesAlone pages size index those result = (rows : List TableRow) → AreApart rows → AreWhole size pages → HasEntriesOf pages size rows index
+    → AllByRecursion (λ row. IsOneOf row rows) those
+    → MatchResult result (λ alone. IsTrue alone → AreAloneIn rows those index) IsOutside
+
+-- and so in each of these indexes
+abbrev pub SeeAlone : PageMap → ℕ → List Index → List TableRow → Result Bool Fault → Type 0
+SeeAlone pages size indexes those result = (rows : List TableRow) → AreApart rows → AreWhole size pages → AllByRecursion (HasEntriesOf pages size rows) indexes
+    → AllByRecursion (λ row. IsOneOf row rows) those
+    → MatchResult result (λ alone. IsTrue alone → AllByRecursion (AreAloneIn rows those) indexes) IsOutside
+
+-- the rows that are set are kept, and these are their changes, and all rows are set as they become
+pub record AreSetAlone (table : Table) (sets : List (ℕ × Term)) (condition : Option Term) (rows : List TableRow) (changes : List RowChange) : Type 0 where
+  pub kept : AreKeptBy table sets condition rows changes
+  pub as_each : rows_set table sets condition rows ≡ rows_set_each table sets condition rows
+
+-- Among all trees of a file stand those of the table, with rows that it may hold, and of which these are enough for the condition. Then these are
+-- the changes of rows that are kept, where there are some; or the UPDATE is refused.
+abbrev pub FindsKept : PageMap → ℕ → Table → Option Term → List (ℕ × Term) → List Row → Result (Option (Vec RowChange)) Fault → Type 0
+FindsKept pages size table condition sets found result = (schema : Owner) (before after : List Owner) (rows : List TableRow) → IsPageSize size → schema.root ≡ 1
+    → AreAmong pages size schema before table rows after → are_rows (with_rows table rows) ≡ true → AreEnough condition found rows
+    → MatchResult result (λ kept. IfSome kept (λ changes. AreSetAlone table sets condition rows changes.items)) (IsRefusedUpdate table condition sets rows)

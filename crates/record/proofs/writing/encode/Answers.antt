@@ -1,9 +1,0 @@
-use Rattle.record.proofs.WritingLemmas.{is_written}
-use Rattle.record.proofs.ShortestLemmas.{is_shortest}
-use Rattle.record.proofs.writing.encode.Goals as goal
-
-pub returns-clause-is : goal.returns-clause-is
-returns-clause-is c = is_written c.args.values.now c.write.result c.requires c.write.ensures.fits c.write.ensures.exact
-
-pub returns-clause-shortest : goal.returns-clause-shortest
-returns-clause-shortest c = is_shortest c.args.values.now c.write.result c.requires c.write.ensures.exact
