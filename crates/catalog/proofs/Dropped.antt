@@ -1,4 +1,4 @@
--- A database of tables without one of them and its indexes.
+-- A listed database without one of its tables and that table's indexes.
 use Rattle.std.proofs.Common.{◌≡◌, refl, sym, ap, subst, ◌∙◌, ℕ, ℤ, Bool, true, false, ◌||◌, List, [], ◌∷◌, ◌++◌, map, filter, not, Option, Some, None, cond}
 use Rattle.std.proofs.lemmas.Bool.{false≢true}
 use Rattle.std.proofs.lemmas.List.Elements.{filter-append}
@@ -15,10 +15,11 @@ use Rattle.sqlval.specs.Lists.{any_twice}
 use Rattle.sqlval.specs.Names.{folded, is_same_name}
 use Rattle.sqlval.specs.declared.value.Value.{Value}
 use Rattle.catalog.specs.Database.{Name, Database, Object, ATable, AnIndex, AView, ATrigger, name_order}
-use Rattle.catalog.specs.Listed.{are_named_once, has_only_plain, index_objects, is_table, named_among, names_of, objects_of, as_index, table_named, table_object, without_table}
+use Rattle.catalog.specs.Listed.{Listed, are_named_once, has_no_trigger, index_objects, is_table, named_among, names_of, objects_of, as_index, table_named, table_object, view_object, without_table}
 use Rattle.catalog.specs.Named.{ListsOthers, goes_with_table, without_table_object}
 use Rattle.catalog.specs.declared.tables.Index.{Index as ListedIndex}
 use Rattle.catalog.specs.declared.tables.Table.{Table}
+use Rattle.catalog.specs.declared.tables.View.{View}
 use Rattle.catalog.proofs.NamedDatabases.{AreFolded, folded_twice, in_order, not_below, rising}
 use Rattle.catalog.proofs.OtherRows.{both_true, first_true, rest_true}
 
@@ -151,12 +152,12 @@ folded_still p (e ∷ es) h = by_test (p e) (folded_still p es h.1)
     by_test true rest = (h.0, rest)
     by_test false rest = rest
 
-pub only_still : (p : Name × Object → Bool) (es : Database) → has_only_plain es ≡ true → has_only_plain (filter p es) ≡ true
+pub only_still : (p : Name × Object → Bool) (es : Database) → has_no_trigger es ≡ true → has_no_trigger (filter p es) ≡ true
 only_still p [] h = refl
-only_still p (e ∷ es) h = by_test (p e) (only_still p es (rest_true _ (has_only_plain es) h))
+only_still p (e ∷ es) h = by_test (p e) (only_still p es (rest_true _ (has_no_trigger es) h))
   where
-    by_test : (b : Bool) → has_only_plain (filter p es) ≡ true → has_only_plain (cond b (e ∷ filter p es) (filter p es)) ≡ true
-    by_test true rest = both_true _ (has_only_plain (filter p es)) (first_true _ (has_only_plain es) h) rest
+    by_test : (b : Bool) → has_no_trigger (filter p es) ≡ true → has_no_trigger (cond b (e ∷ filter p es) (filter p es)) ≡ true
+    by_test true rest = both_true _ (has_no_trigger (filter p es)) (first_true _ (has_no_trigger es) h) rest
     by_test false rest = rest
 
 -- ---- the law
@@ -176,8 +177,13 @@ object_names : (rows_at : ℕ → List (ℤ × List Value)) (tables : List Table
 object_names rows_at [] os names e = e
 object_names rows_at (t ∷ ts) os names e = ap (λ ns. t.name ∷ ns) (object_names rows_at ts os names e)
 
-pub names_are : (rows_at : ℕ → List (ℤ × List Value)) (tables : List Table) → map (λ (o : Name × Object). o.0) (objects_of rows_at tables) ≡ names_of tables
-names_are rows_at tables = object_names rows_at tables (flat_map index_objects tables) _ (index_names tables)
+pub view_names : (views : List View) (os : List (Name × Object)) (names : List Name) → map (λ (o : Name × Object). o.0) os ≡ names
+    → map (λ (o : Name × Object). o.0) (map view_object views ++ os) ≡ map (λ (v : View). v.definition.name) views ++ names
+view_names [] os names e = e
+view_names (v ∷ vs) os names e = ap (λ ns. v.definition.name ∷ ns) (view_names vs os names e)
+
+pub names_are : (rows_at : ℕ → List (ℤ × List Value)) (l : Listed) → map (λ (o : Name × Object). o.0) (objects_of rows_at l) ≡ names_of l
+names_are rows_at l = object_names rows_at l.tables (map view_object l.views ++ flat_map index_objects l.tables) _ (view_names l.views (flat_map index_objects l.tables) _ (index_names l.tables))
 
 -- ---- those that go
 
@@ -241,12 +247,27 @@ indexes_left name (t ∷ ts) none =
     by_test true e = ap (λ os. os ++ flat_map index_objects (without_table name ts)) (all_go name t t.indexes e)
     by_test false e = ap (λ os. os ++ flat_map index_objects (without_table name ts)) (all_stay name t t.indexes e none.0)
 
-objects_left : (rows_at : ℕ → List (ℤ × List Value)) (name : Name) (tables : List Table) → AllByRecursion (λ (t : Table). NoneNamed name t.indexes) tables
-    → filter (stays name) (objects_of rows_at tables) ≡ objects_of rows_at (without_table name tables)
-objects_left rows_at name tables none =
-    filter-append (stays name) (map (table_object rows_at) tables) (flat_map index_objects tables)
-    ∙ (ap (λ os. os ++ filter (stays name) (flat_map index_objects tables)) (tables_left rows_at name tables)
-    ∙ ap (λ os. map (table_object rows_at) (without_table name tables) ++ os) (indexes_left name tables none))
+-- no view has the name
+views_left : (name : Name) (views : List View) → list_any (is_same_name name) (map (λ (v : View). v.definition.name) views) ≡ false → filter (stays name) (map view_object views) ≡ map view_object views
+views_left name [] none = refl
+views_left name (v ∷ vs) none =
+    let parts = both_false (is_same_name name v.definition.name) (list_any (is_same_name name) (map (λ (v : View). v.definition.name) vs)) none in
+    ap (λ b. cond (not b) (view_object v ∷ filter (stays name) (map view_object vs)) (filter (stays name) (map view_object vs))) parts.0
+    ∙ ap (λ os. view_object v ∷ os) (views_left name vs parts.1)
+  where
+    both_false : (a b : Bool) → (a || b) ≡ false → (a ≡ false) × (b ≡ false)
+    both_false true b h = absurd (false≢true (sym h))
+    both_false false b h = (refl, h)
+
+objects_left : (rows_at : ℕ → List (ℤ × List Value)) (name : Name) (l : Listed) → AllByRecursion (λ (t : Table). NoneNamed name t.indexes) l.tables
+    → list_any (is_same_name name) (map (λ (v : View). v.definition.name) l.views) ≡ false
+    → filter (stays name) (objects_of rows_at l) ≡ objects_of rows_at (record l { tables = without_table name l.tables })
+objects_left rows_at name l none no_view =
+    filter-append (stays name) (map (table_object rows_at) l.tables) (map view_object l.views ++ flat_map index_objects l.tables)
+    ∙ (ap (λ os. os ++ filter (stays name) (map view_object l.views ++ flat_map index_objects l.tables)) (tables_left rows_at name l.tables)
+    ∙ (ap (λ os. map (table_object rows_at) (without_table name l.tables) ++ os) (filter-append (stays name) (map view_object l.views) (flat_map index_objects l.tables))
+    ∙ (ap (λ os. map (table_object rows_at) (without_table name l.tables) ++ (os ++ filter (stays name) (flat_map index_objects l.tables))) (views_left name l.views no_view)
+    ∙ ap (λ os. map (table_object rows_at) (without_table name l.tables) ++ (map view_object l.views ++ os)) (indexes_left name l.tables none))))
 
 -- ---- names that stand once
 
@@ -299,10 +320,22 @@ pub is_no : (b : Bool) → not b ≡ true → b ≡ false
 is_no true h = absurd (false≢true h)
 is_no false h = refl
 
--- no index has the name of a table
-pub no_index_named : (name : Name) (tables : List Table) (t : Table) → are_named_once tables ≡ true → table_named name tables ≡ Some t → AllByRecursion (λ (t : Table). NoneNamed name t.indexes) tables
-no_index_named name tables t once found =
-    let own = own_name name tables _ t found (is_no (any_twice is_same_name (names_of tables)) once) in none_among t.name name tables own.0 own.1
+none_for : (a name : Name) (names : List Name) → is_same_name a name ≡ true → list_any (is_same_name a) names ≡ false → list_any (is_same_name name) names ≡ false
+none_for a name names same_as h = subst (λ (k : Name). list_any (λ (n : Name). bytes_eq k (folded n)) names ≡ false) (same (folded a) (folded name) same_as) h
+
+abbrev view_names_of : Listed → List Name
+view_names_of l = map (λ (v : View). v.definition.name) l.views
+
+-- no index and no view has the name of a table
+pub no_index_named : (name : Name) (l : Listed) (t : Table) → are_named_once l ≡ true → table_named name l.tables ≡ Some t → AllByRecursion (λ (t : Table). NoneNamed name t.indexes) l.tables
+no_index_named name l t once found =
+    let own = own_name name l.tables _ t found (is_no (any_twice is_same_name (names_of l)) once) in
+    none_among t.name name l.tables own.0 (none_after (is_same_name t.name) (view_names_of l) _ own.1)
+
+pub no_view_named : (name : Name) (l : Listed) (t : Table) → are_named_once l ≡ true → table_named name l.tables ≡ Some t → list_any (is_same_name name) (map (λ (v : View). v.definition.name) l.views) ≡ false
+no_view_named name l t once found =
+    let own = own_name name l.tables _ t found (is_no (any_twice is_same_name (names_of l)) once) in
+    none_for t.name name (view_names_of l) own.0 (none_first (is_same_name t.name) (view_names_of l) _ own.1)
 
 none_still : (p : Name × Object → Bool) (same : Name → Bool) (os : List (Name × Object)) → list_any same (map (λ o. o.0) os) ≡ false → list_any same (map (λ o. o.0) (filter p os)) ≡ false
 none_still p same [] h = refl
@@ -356,30 +389,30 @@ both_kept name (Some o) (Some x) e names =
     by_test false e is = ap (λ b. option_map (λ (y : Name × Object). y.1) (cond b (Some o) None)) e
 
 pub lists_others : ListsOthers
-lists_others rows_at tables db name t is found = record {
+lists_others rows_at l db name t is found = record {
   lists = λ q.
       let entry = entry_at (folded q) db in
-      let listed = list.find (has_name q) (objects_of rows_at tables) in
+      let listed = list.find (has_name q) (objects_of rows_at l) in
       found_entry (folded q) (without_table_object name db)
       ∙ (ap (option_map (λ (o : Name × Object). o.1)) (found_kept (stays name) (λ (e : Name × Object). eq_by_cmp name_order (folded q) e.0) db (keyed_once (folded q) db sorted))
       ∙ (both_kept name entry listed (sym (found_entry (folded q) db) ∙ is.lists q)
       (λ o x at there. (ap folded (sym (tells_apart exact_bytes (folded q) o.0 (found_holds (λ (e : Name × Object). eq_by_cmp name_order (folded q) e.0) db o at)))
-      ∙ (folded_twice q ∙ sym (same (folded x.0) (folded q) (found_holds (has_name q) (objects_of rows_at tables) x there)))))
-      ∙ (ap (option_map (λ (o : Name × Object). o.1)) (sym (found_kept (stays name) (has_name q) (objects_of rows_at tables) (once_named q (objects_of rows_at tables) once)))
+      ∙ (folded_twice q ∙ sym (same (folded x.0) (folded q) (found_holds (has_name q) (objects_of rows_at l) x there)))))
+      ∙ (ap (option_map (λ (o : Name × Object). o.1)) (sym (found_kept (stays name) (has_name q) (objects_of rows_at l) (once_named q (objects_of rows_at l) once)))
       ∙ ap (named_among q) left)));
-  only = only_still (stays name) db is.only;
+  quiet = only_still (stays name) db is.quiet;
   named = record {
     rising = rising (without_table_object name db) (sorted_still (stays name) db sorted);
     each_folded = folded_still (stays name) db is.named.each_folded;
   };
-  once = ap not (ap (any_twice is_same_name) (sym (names_are rows_at (without_table name tables)) ∙ ap (map (λ (o : Name × Object). o.0)) (sym left)) ∙ once_still (stays name) (objects_of rows_at tables) once);
+  once = ap not (ap (any_twice is_same_name) (sym (names_are rows_at (record l { tables = without_table name l.tables })) ∙ ap (map (λ (o : Name × Object). o.0)) (sym left)) ∙ once_still (stays name) (objects_of rows_at l) once);
 }
   where
     sorted : is_sorted name_order db ≡ true
     sorted = in_order db is.named.rising
 
-    once : any_twice is_same_name (map (λ (o : Name × Object). o.0) (objects_of rows_at tables)) ≡ false
-    once = ap (any_twice is_same_name) (names_are rows_at tables) ∙ is_no (any_twice is_same_name (names_of tables)) is.once
+    once : any_twice is_same_name (map (λ (o : Name × Object). o.0) (objects_of rows_at l)) ≡ false
+    once = ap (any_twice is_same_name) (names_are rows_at l) ∙ is_no (any_twice is_same_name (names_of l)) is.once
 
-    left : filter (stays name) (objects_of rows_at tables) ≡ objects_of rows_at (without_table name tables)
-    left = objects_left rows_at name tables (no_index_named name tables t is.once found)
+    left : filter (stays name) (objects_of rows_at l) ≡ objects_of rows_at (record l { tables = without_table name l.tables })
+    left = objects_left rows_at name l (no_index_named name l t is.once found) (no_view_named name l t is.once found)

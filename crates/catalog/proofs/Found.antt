@@ -1,19 +1,24 @@
--- What the names of tables and of indexes find.
+-- What the names of tables, of views and of indexes find.
 use Rattle.std.proofs.Common.{◌≡◌, inl, inr, refl, sym, ap, subst, ◌∙◌, ℕ, ℤ, Bool, true, false, List, [], ◌∷◌, ◌++◌, map, Option, Some, None, cond}
 use Rattle.std.specs.Prelude.{flat_map, is_some, option_map, MatchOption, ◌||◌}
 use Rattle.std.specs.List as list
 use Rattle.std.specs.List.{list_any}
 use Rattle.sqlval.specs.Names.{is_same_name}
 use Rattle.sqlval.specs.declared.value.Value.{Value}
-use Rattle.catalog.specs.Database.{Name, Object, ATable, AnIndex, object}
-use Rattle.catalog.specs.Laws.{FindsListed, IsNoTable, NamesListed}
-use Rattle.catalog.specs.Listed.{has_index, has_table_name, index_objects, is_name_of, is_table, named_among, objects_of, as_index, with_rows, table_named, table_object}
+use Rattle.catalog.specs.Database.{Name, Object, ATable, AnIndex, AView, object}
+use Rattle.catalog.specs.Laws.{FindsListed, IsNoSource, IsNoTable, NamesListed}
+use Rattle.catalog.specs.Listed.{Listed, as_view, has_index, has_table_name, index_objects, is_name_of, is_table, is_view, named_among, objects_of, as_index, with_rows, table_named, table_object, view_named, view_object}
 use Rattle.catalog.specs.declared.tables.Index.{Index as ListedIndex}
 use Rattle.catalog.specs.declared.tables.Table.{Table}
+use Rattle.catalog.specs.declared.tables.View.{View}
 
 -- what a name finds among the indexes of tables
 abbrev pub index_found : Name → List Table → Option Object
 index_found name tables = named_among name (flat_map index_objects tables)
+
+-- what a name finds behind the tables: among the views, or else among the indexes
+abbrev pub behind_found : Name → Listed → Option Object
+behind_found name l = named_among name (map view_object l.views ++ flat_map index_objects l.tables)
 
 -- a table that was found as an object, or else what is found behind the tables
 abbrev pub as_object : (ℕ → List (ℤ × List Value)) → Option Object → Option Table → Option Object
@@ -37,34 +42,57 @@ found_first rows_at name (t ∷ ts) os =
     by_test rest true = refl
     by_test rest false = rest
 
-pub listed_as : (rows_at : ℕ → List (ℤ × List Value)) (name : Name) (tables : List Table)
-    → named_among name (objects_of rows_at tables) ≡ as_object rows_at (index_found name tables) (table_named name tables)
-listed_as rows_at name tables = found_first rows_at name tables (flat_map index_objects tables)
+pub listed_as : (rows_at : ℕ → List (ℤ × List Value)) (name : Name) (l : Listed)
+    → named_among name (objects_of rows_at l) ≡ as_object rows_at (behind_found name l) (table_named name l.tables)
+listed_as rows_at name l = found_first rows_at name l.tables (map view_object l.views ++ flat_map index_objects l.tables)
+
+-- a view that was found as an object, or else what is found behind the views
+abbrev pub as_seen : Option Object → Option View → Option Object
+as_seen behind None = behind
+as_seen behind (Some v) = Some (AView (as_view v))
+
+-- objects are found as views first, and then behind them
+pub views_first : (name : Name) (views : List View) (os : List (Name × Object)) → named_among name (map view_object views ++ os) ≡ as_seen (named_among name os) (view_named name views)
+views_first name [] os = refl
+views_first name (v ∷ vs) os = one_more name (view_object v) (map view_object vs ++ os) (is_view name v) refl ∙ by_test (views_first name vs os) (is_view name v)
+  where
+    by_test : named_among name (map view_object vs ++ os) ≡ as_seen (named_among name os) (view_named name vs)
+        → (b : Bool) → cond b (Some (AView (as_view v))) (named_among name (map view_object vs ++ os)) ≡ as_seen (named_among name os) (cond b (Some v) (view_named name vs))
+    by_test rest true = refl
+    by_test rest false = rest
 
 -- where one of two lists has it, or else the other
-index_behind : (name : Name) (t : Table) (is : List ListedIndex) (os : List (Name × Object)) → IsNoTable (named_among name os)
-    → IsNoTable (named_among name (map (λ (i : ListedIndex). (i.name, AnIndex (as_index t i))) is ++ os))
+index_behind : (name : Name) (t : Table) (is : List ListedIndex) (os : List (Name × Object)) → IsNoSource (named_among name os)
+    → IsNoSource (named_among name (map (λ (i : ListedIndex). (i.name, AnIndex (as_index t i))) is ++ os))
 index_behind name t [] os h = h
 index_behind name t (i ∷ is) os h =
-    subst IsNoTable (sym (one_more name (i.name, AnIndex (as_index t i)) (map (λ (i : ListedIndex). (i.name, AnIndex (as_index t i))) is ++ os) (is_same_name i.name name) refl))
+    subst IsNoSource (sym (one_more name (i.name, AnIndex (as_index t i)) (map (λ (i : ListedIndex). (i.name, AnIndex (as_index t i))) is ++ os) (is_same_name i.name name) refl))
     (by_test (index_behind name t is os h) (is_same_name i.name name))
   where
-    by_test : IsNoTable (named_among name (map (λ (i : ListedIndex). (i.name, AnIndex (as_index t i))) is ++ os))
-        → (b : Bool) → IsNoTable (cond b (Some (AnIndex (as_index t i))) (named_among name (map (λ (i : ListedIndex). (i.name, AnIndex (as_index t i))) is ++ os)))
+    by_test : IsNoSource (named_among name (map (λ (i : ListedIndex). (i.name, AnIndex (as_index t i))) is ++ os))
+        → (b : Bool) → IsNoSource (cond b (Some (AnIndex (as_index t i))) (named_among name (map (λ (i : ListedIndex). (i.name, AnIndex (as_index t i))) is ++ os)))
     by_test rest true = inr (as_index t i, refl)
     by_test rest false = rest
 
--- no table stands among the indexes
-pub no_table : (name : Name) (tables : List Table) → IsNoTable (index_found name tables)
-no_table name [] = inl refl
-no_table name (t ∷ ts) = index_behind name t t.indexes (flat_map index_objects ts) (no_table name ts)
+-- neither a table nor a view stands among the indexes
+pub no_source : (name : Name) (tables : List Table) → IsNoSource (index_found name tables)
+no_source name [] = inl refl
+no_source name (t ∷ ts) = index_behind name t t.indexes (flat_map index_objects ts) (no_source name ts)
+
+-- no table stands behind the tables
+pub no_table : (name : Name) (l : Listed) → IsNoTable l name (behind_found name l)
+no_table name l = by_case (view_named name l.views) (views_first name l.views (flat_map index_objects l.tables))
+  where
+    by_case : (found : Option View) → behind_found name l ≡ as_seen (index_found name l.tables) found → MatchOption found (IsNoSource (behind_found name l)) (λ v. behind_found name l ≡ Some (AView (as_view v)))
+    by_case None e = subst IsNoSource (sym e) (no_source name l.tables)
+    by_case (Some v) e = e
 
 pub finds_listed : FindsListed
-finds_listed rows_at tables db name lists = by_case (table_named name tables) (lists name ∙ listed_as rows_at name tables)
+finds_listed rows_at l db name lists = by_case (table_named name l.tables) (lists name ∙ listed_as rows_at name l)
   where
-    by_case : (found : Option Table) → object db name ≡ as_object rows_at (index_found name tables) found
-        → MatchOption found (IsNoTable (object db name)) (λ t. object db name ≡ Some (ATable (with_rows t (rows_at t.root))))
-    by_case None e = subst IsNoTable (sym e) (no_table name tables)
+    by_case : (found : Option Table) → object db name ≡ as_object rows_at (behind_found name l) found
+        → MatchOption found (IsNoTable l name (object db name)) (λ t. object db name ≡ Some (ATable (with_rows t (rows_at t.root))))
+    by_case None e = subst (IsNoTable l name) (sym e) (no_table name l)
     by_case (Some t) e = e
 
 -- ---- names
@@ -113,12 +141,40 @@ found_or_behind : (rows_at : ℕ → List (ℤ × List Value)) (behind : Option 
 found_or_behind rows_at behind None = refl
 found_or_behind rows_at behind (Some t) = refl
 
-pub names_found : (rows_at : ℕ → List (ℤ × List Value)) (name : Name) (tables : List Table) → is_some (named_among name (objects_of rows_at tables)) ≡ is_name_of tables name
-names_found rows_at name tables =
-    ap is_some (listed_as rows_at name tables)
-    ∙ (found_or_behind rows_at (index_found name tables) (table_named name tables)
-    ∙ (ap (λ b. b || is_some (index_found name tables)) (table_any name tables)
-    ∙ (ap (λ b. list_any (is_table name) tables || b) (indexes_any name tables) ∙ sym (any_either name tables))))
+view_any : (name : Name) (views : List View) → is_some (view_named name views) ≡ list_any (is_view name) views
+view_any name [] = refl
+view_any name (v ∷ vs) = by_test (view_any name vs) (is_view name v)
+  where
+    by_test : is_some (view_named name vs) ≡ list_any (is_view name) vs → (b : Bool) → is_some (cond b (Some v) (view_named name vs)) ≡ (b || list_any (is_view name) vs)
+    by_test rest true = refl
+    by_test rest false = rest
+
+seen_or_behind : (behind : Option Object) (found : Option View) → is_some (as_seen behind found) ≡ (is_some found || is_some behind)
+seen_or_behind behind None = refl
+seen_or_behind behind (Some v) = refl
+
+behind_any : (name : Name) (l : Listed) → is_some (behind_found name l) ≡ (list_any (is_view name) l.views || list_any (has_index name) l.tables)
+behind_any name l =
+    ap is_some (views_first name l.views (flat_map index_objects l.tables))
+    ∙ (seen_or_behind (index_found name l.tables) (view_named name l.views)
+    ∙ (ap (λ b. b || is_some (index_found name l.tables)) (view_any name l.views)
+    ∙ ap (λ b. list_any (is_view name) l.views || b) (indexes_any name l.tables)))
+
+turned : (a b c : Bool) → (a || (b || c)) ≡ ((a || c) || b)
+turned true b c = refl
+turned false true true = refl
+turned false true false = refl
+turned false false true = refl
+turned false false false = refl
+
+pub names_found : (rows_at : ℕ → List (ℤ × List Value)) (name : Name) (l : Listed) → is_some (named_among name (objects_of rows_at l)) ≡ is_name_of l name
+names_found rows_at name l =
+    ap is_some (listed_as rows_at name l)
+    ∙ (found_or_behind rows_at (behind_found name l) (table_named name l.tables)
+    ∙ (ap (λ b. b || is_some (behind_found name l)) (table_any name l.tables)
+    ∙ (ap (λ b. list_any (is_table name) l.tables || b) (behind_any name l)
+    ∙ (turned (list_any (is_table name) l.tables) (list_any (is_view name) l.views) (list_any (has_index name) l.tables)
+    ∙ ap (λ b. b || list_any (is_view name) l.views) (sym (any_either name l.tables))))))
 
 pub names_listed : NamesListed
-names_listed rows_at tables db name lists = ap is_some (lists name) ∙ names_found rows_at name tables
+names_listed rows_at l db name lists = ap is_some (lists name) ∙ names_found rows_at name l

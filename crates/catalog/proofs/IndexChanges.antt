@@ -17,14 +17,15 @@ use Rattle.sqlval.specs.Lists.{any_twice}
 use Rattle.sqlval.specs.Names.{folded, is_same_name}
 use Rattle.sqlval.specs.declared.value.Value.{Value}
 use Rattle.catalog.specs.Database.{Name, Object, AnIndex, name_order, object}
-use Rattle.catalog.specs.Listed.{has_index, index_objects, is_table, named_among, names_of, objects_of, as_index, table_object, with_replaced}
-use Rattle.catalog.specs.NewIndexes.{ListsNewIndex, ListsOtherIndexes, with_index, without_index, without_object}
+use Rattle.catalog.specs.Listed.{Listed, has_index, index_objects, is_table, named_among, names_of, objects_of, as_index, table_object, view_object, with_replaced}
+use Rattle.catalog.specs.NewIndexes.{ListsNewIndex, ListsOtherIndexes, replacing, with_index, without_index, without_object}
 use Rattle.catalog.specs.declared.tables.Index.{Index as ListedIndex}
 use Rattle.catalog.specs.declared.tables.Table.{Table}
-use Rattle.catalog.proofs.Dropped.{entry_at, folded_still, found_entry, found_holds, found_kept, has_name, index_names, is_no, joined, kept, keyed_once, names_are, neither, once_named, once_still, only_still, other_name, same, sorted_still, tells}
+use Rattle.catalog.specs.declared.tables.View.{View}
+use Rattle.catalog.proofs.Dropped.{entry_at, folded_still, found_entry, found_holds, found_kept, has_name, index_names, is_no, joined, kept, keyed_once, names_are, neither, once_named, once_still, only_still, other_name, same, sorted_still, tells, view_names}
 use Rattle.catalog.proofs.Found.{names_found}
 use Rattle.catalog.proofs.NamedDatabases.{folded_twice, in_order, keeps_named, rising, same_test}
-use Rattle.catalog.proofs.OtherRows.{only_plain}
+use Rattle.catalog.proofs.OtherRows.{no_trigger}
 
 -- ---- a table in place of itself
 
@@ -42,7 +43,7 @@ record IsSplit (t : Table) (tables : List Table) : Type 0 where
   parts : tables ≡ before ++ t ∷ after
   replaced : (new : Table) → new.name ≡ t.name → with_replaced new tables ≡ before ++ new ∷ after
 
-abbrev table_names : List Table → List Name
+abbrev pub table_names : List Table → List Name
 table_names tables = map (λ (t : Table). t.name) tables
 
 named_in_middle : (p : Name → Bool) (before : List Table) (t : Table) (after : List Table) → list_any p (table_names (before ++ t ∷ after)) ≡ false → p t.name ≡ false
@@ -78,7 +79,7 @@ split_at p (u ∷ us) t once found =
 
 -- ---- names
 
-first_part : (p : Name → Bool) (xs ys : List Name) → list_any p (xs ++ ys) ≡ false → (list_any p xs ≡ false) × (list_any p ys ≡ false)
+pub first_part : (p : Name → Bool) (xs ys : List Name) → list_any p (xs ++ ys) ≡ false → (list_any p xs ≡ false) × (list_any p ys ≡ false)
 first_part p [] ys none = (refl, none)
 first_part p (x ∷ xs) ys none =
     let both = neither (p x) (list_any p (xs ++ ys)) none in let rest = first_part p xs ys both.1 in (ap (λ b. b || list_any p xs) both.0 ∙ rest.0, rest.1)
@@ -93,7 +94,7 @@ once_first (x ∷ xs) ys once =
     let both = neither (list_any (is_same_name x) (xs ++ ys)) (any_twice is_same_name (xs ++ ys)) once in
     ap (λ b. b || any_twice is_same_name xs) (first_part (is_same_name x) xs ys both.0).0 ∙ once_first xs ys both.1
 
-once_inserted : (xs : List Name) (x : Name) (ys : List Name) → any_twice is_same_name (xs ++ ys) ≡ false → list_any (is_same_name x) (xs ++ ys) ≡ false → any_twice is_same_name (xs ++ x ∷ ys) ≡ false
+pub once_inserted : (xs : List Name) (x : Name) (ys : List Name) → any_twice is_same_name (xs ++ ys) ≡ false → list_any (is_same_name x) (xs ++ ys) ≡ false → any_twice is_same_name (xs ++ x ∷ ys) ≡ false
 once_inserted [] x ys once none = ap (λ b. b || any_twice is_same_name ys) none ∙ once
 once_inserted (y ∷ xs) x ys once none =
     let both = neither (list_any (is_same_name y) (xs ++ ys)) (any_twice is_same_name (xs ++ ys)) once in
@@ -104,7 +105,7 @@ once_inserted (y ∷ xs) x ys once none =
     ∙ once_inserted xs x ys both.1 others.1
 
 -- what isn't found has a name of its own
-own : (name : Name) (os : List (Name × Object)) → named_among name os ≡ None → list_any (is_same_name name) (map (λ (o : Name × Object). o.0) os) ≡ false
+pub own : (name : Name) (os : List (Name × Object)) → named_among name os ≡ None → list_any (is_same_name name) (map (λ (o : Name × Object). o.0) os) ≡ false
 own name [] none = refl
 own name (o ∷ os) none = by_test (own name os) (is_same_name o.0 name) refl none
   where
@@ -116,7 +117,7 @@ own name (o ∷ os) none = by_test (own name os) (is_same_name o.0 name) refl no
 
 -- ---- an object more
 
-inserted : (q : Name) (front : List (Name × Object)) (o : Name × Object) (back : List (Name × Object)) → (is_same_name o.0 q ≡ true → named_among q (front ++ back) ≡ None)
+pub inserted : (q : Name) (front : List (Name × Object)) (o : Name × Object) (back : List (Name × Object)) → (is_same_name o.0 q ≡ true → named_among q (front ++ back) ≡ None)
     → named_among q (front ++ o ∷ back) ≡ cond (is_same_name o.0 q) (Some o.1) (named_among q (front ++ back))
 inserted q [] o back fresh = by_test (is_same_name o.0 q)
   where
@@ -137,56 +138,65 @@ inserted q (y ∷ front) o back fresh = by_test (inserted q front o back) (is_sa
     by_test rest true e fresh = sym (ap (λ b. cond b (Some o.1) (Some y.1)) (none_same (is_same_name o.0 q) fresh))
     by_test rest false e fresh = rest fresh
 
--- the objects of tables with an index more, after one of them
-abbrev listed_before : (ℕ → List (ℤ × List Value)) → List Table → Table → List Table → List (Name × Object)
-listed_before rows_at before t after = map (table_object rows_at) (before ++ t ∷ after) ++ (flat_map index_objects before ++ index_objects t)
+-- the objects that are listed, up to the indexes of one of the tables
+abbrev listed_before : (ℕ → List (ℤ × List Value)) → List View → List Table → Table → List Table → List (Name × Object)
+listed_before rows_at views before t after = map (table_object rows_at) (before ++ t ∷ after) ++ (map view_object views ++ (flat_map index_objects before ++ index_objects t))
 
-objects_split : (rows_at : ℕ → List (ℤ × List Value)) (before : List Table) (t : Table) (after : List Table)
-    → objects_of rows_at (before ++ t ∷ after) ≡ listed_before rows_at before t after ++ flat_map index_objects after
-objects_split rows_at before t after =
-    ap (λ os. map (table_object rows_at) (before ++ t ∷ after) ++ os) (flat_map-append index_objects before (t ∷ after) ∙ sym (append_assoc (flat_map index_objects before) (index_objects t) (flat_map index_objects after)))
-    ∙ sym (append_assoc (map (table_object rows_at) (before ++ t ∷ after)) (flat_map index_objects before ++ index_objects t) (flat_map index_objects after))
+abbrev split_in : List View → List Table → Table → List Table → Listed
+split_in views before t after = record { tables = before ++ t ∷ after; views = views }
+
+objects_split : (rows_at : ℕ → List (ℤ × List Value)) (views : List View) (before : List Table) (t : Table) (after : List Table)
+    → objects_of rows_at (split_in views before t after) ≡ listed_before rows_at views before t after ++ flat_map index_objects after
+objects_split rows_at views before t after =
+    let front : List (Name × Object) = map (table_object rows_at) (before ++ t ∷ after) in
+    let seen : List (Name × Object) = map view_object views in
+    ap (λ os. front ++ (seen ++ os)) (flat_map-append index_objects before (t ∷ after) ∙ sym (append_assoc (flat_map index_objects before) (index_objects t) (flat_map index_objects after)))
+    ∙ (ap (λ os. front ++ os) (sym (append_assoc seen (flat_map index_objects before ++ index_objects t) (flat_map index_objects after)))
+    ∙ sym (append_assoc front (seen ++ (flat_map index_objects before ++ index_objects t)) (flat_map index_objects after)))
 
 same_tables : (rows_at : ℕ → List (ℤ × List Value)) (before : List Table) (t : Table) (is : List ListedIndex) (after : List Table)
     → map (table_object rows_at) (before ++ (record t { indexes = is }) ∷ after) ≡ map (table_object rows_at) (before ++ t ∷ after)
 same_tables rows_at [] t is after = refl
 same_tables rows_at (u ∷ before) t is after = ap (λ os. table_object rows_at u ∷ os) (same_tables rows_at before t is after)
 
-objects_more : (rows_at : ℕ → List (ℤ × List Value)) (before : List Table) (t : Table) (i : ListedIndex) (after : List Table)
-    → objects_of rows_at (before ++ with_index i t ∷ after) ≡ listed_before rows_at before t after ++ (i.name, AnIndex (as_index t i)) ∷ flat_map index_objects after
-objects_more rows_at before t i after =
+objects_more : (rows_at : ℕ → List (ℤ × List Value)) (views : List View) (before : List Table) (t : Table) (i : ListedIndex) (after : List Table)
+    → objects_of rows_at (split_in views before (with_index i t) after) ≡ listed_before rows_at views before t after ++ (i.name, AnIndex (as_index t i)) ∷ flat_map index_objects after
+objects_more rows_at views before t i after =
     let new : List (Name × Object) = (i.name, AnIndex (as_index t i)) ∷ [] in
-    objects_split rows_at before (with_index i t) after
-    ∙ (ap (λ os. (os ++ (flat_map index_objects before ++ index_objects (with_index i t))) ++ flat_map index_objects after) (same_tables rows_at before t (t.indexes ++ i ∷ []) after)
-    ∙ (ap (λ os. (map (table_object rows_at) (before ++ t ∷ after) ++ (flat_map index_objects before ++ os)) ++ flat_map index_objects after)
-    (map-append (λ (j : ListedIndex). (j.name, AnIndex (as_index t j))) t.indexes (i ∷ []))
-    ∙ (ap (λ os. (map (table_object rows_at) (before ++ t ∷ after) ++ os) ++ flat_map index_objects after) (sym (append_assoc (flat_map index_objects before) (index_objects t) new))
-    ∙ (ap (λ os. os ++ flat_map index_objects after) (sym (append_assoc (map (table_object rows_at) (before ++ t ∷ after)) (flat_map index_objects before ++ index_objects t) new))
-    ∙ append_assoc (listed_before rows_at before t after) new (flat_map index_objects after)))))
+    let front : List (Name × Object) = map (table_object rows_at) (before ++ t ∷ after) in
+    let seen : List (Name × Object) = map view_object views in
+    let back : List (Name × Object) = flat_map index_objects after in
+    objects_split rows_at views before (with_index i t) after
+    ∙ (ap (λ os. (os ++ (seen ++ (flat_map index_objects before ++ index_objects (with_index i t)))) ++ back) (same_tables rows_at before t (t.indexes ++ i ∷ []) after)
+    ∙ (ap (λ os. (front ++ (seen ++ (flat_map index_objects before ++ os))) ++ back) (map-append (λ (j : ListedIndex). (j.name, AnIndex (as_index t j))) t.indexes (i ∷ []))
+    ∙ (ap (λ os. (front ++ (seen ++ os)) ++ back) (sym (append_assoc (flat_map index_objects before) (index_objects t) new))
+    ∙ (ap (λ os. (front ++ os) ++ back) (sym (append_assoc seen (flat_map index_objects before ++ index_objects t) new))
+    ∙ (ap (λ os. os ++ back) (sym (append_assoc front (seen ++ (flat_map index_objects before ++ index_objects t)) new))
+    ∙ append_assoc (listed_before rows_at views before t after) new back)))))
 
 pub lists_new_index : ListsNewIndex
-lists_new_index rows_at tables db t i is found fresh = record {
+lists_new_index rows_at l db t i is found fresh = record {
   lists = λ q.
       find-put name_order nat_list_cmp_total (folded q) (folded i.name) (AnIndex (as_index t i)) db
       ∙ (ap (λ b. cond b (Some (AnIndex (as_index t i))) (object db q)) (same_test (folded q) (folded i.name))
       ∙ (ap (cond (is_same_name i.name q) (Some (AnIndex (as_index t i)))) (is.lists q ∙ ap (named_among q) objects_are)
       ∙ (sym (inserted q front new back (none_at q)) ∙ ap (named_among q) (sym objects_then))));
-  only = only_plain db i.name (AnIndex (as_index t i)) is.only refl;
+  quiet = no_trigger db i.name (AnIndex (as_index t i)) is.quiet refl;
   named = keeps_named db i.name (AnIndex (as_index t i)) is.named;
-  once = ap not (ap (any_twice is_same_name) (sym (names_are rows_at (with_replaced (with_index i t) tables)) ∙ (ap (map (λ (o : Name × Object). o.0)) objects_then ∙ map-append (λ (o : Name × Object). o.0) front (new ∷ back)))
+  once = ap not (ap (any_twice is_same_name) (sym (names_are rows_at (replacing (with_index i t) l)) ∙ (ap (map (λ (o : Name × Object). o.0)) objects_then ∙ map-append (λ (o : Name × Object). o.0) front (new ∷ back)))
       ∙ once_inserted (map (λ (o : Name × Object). o.0) front) i.name (map (λ (o : Name × Object). o.0) back)
-      (ap (any_twice is_same_name) (sym (map-append (λ (o : Name × Object). o.0) front back) ∙ (ap (map (λ (o : Name × Object). o.0)) (sym objects_are) ∙ names_are rows_at tables)) ∙ names_once)
+      (ap (any_twice is_same_name) (sym (map-append (λ (o : Name × Object). o.0) front back) ∙ (ap (map (λ (o : Name × Object). o.0)) (sym objects_are) ∙ names_are rows_at l)) ∙ names_once)
       (ap (list_any (is_same_name i.name)) (sym (map-append (λ (o : Name × Object). o.0) front back)) ∙ own i.name (front ++ back) none));
 }
   where
-    names_once : any_twice is_same_name (names_of tables) ≡ false
-    names_once = is_no (any_twice is_same_name (names_of tables)) is.once
+    names_once : any_twice is_same_name (names_of l) ≡ false
+    names_once = is_no (any_twice is_same_name (names_of l)) is.once
 
-    split : IsSplit t tables
-    split = split_at (is_table t.name) tables t (once_first (table_names tables) _ names_once) found
+    split : IsSplit t l.tables
+    split = split_at (is_table t.name) l.tables t (once_first (table_names l.tables) _ names_once) found
 
     front : List (Name × Object)
-    front = listed_before rows_at split.before t split.after
+    front = listed_before rows_at l.views split.before t split.after
 
     back : List (Name × Object)
     back = flat_map index_objects split.after
@@ -194,28 +204,28 @@ lists_new_index rows_at tables db t i is found fresh = record {
     new : Name × Object
     new = (i.name, AnIndex (as_index t i))
 
-    objects_are : objects_of rows_at tables ≡ front ++ back
-    objects_are = ap (objects_of rows_at) split.parts ∙ objects_split rows_at split.before t split.after
+    objects_are : objects_of rows_at l ≡ front ++ back
+    objects_are = ap (λ (ts : List Table). objects_of rows_at (record l { tables = ts })) split.parts ∙ objects_split rows_at l.views split.before t split.after
 
-    objects_then : objects_of rows_at (with_replaced (with_index i t) tables) ≡ front ++ new ∷ back
-    objects_then = ap (objects_of rows_at) (split.replaced (with_index i t) refl) ∙ objects_more rows_at split.before t i split.after
+    objects_then : objects_of rows_at (replacing (with_index i t) l) ≡ front ++ new ∷ back
+    objects_then = ap (λ (ts : List Table). objects_of rows_at (record l { tables = ts })) (split.replaced (with_index i t) refl) ∙ objects_more rows_at l.views split.before t i split.after
 
     nothing : (found : Option Object) → is_some found ≡ false → found ≡ None
     nothing None h = refl
     nothing (Some o) h = absurd (false≢true (sym h))
 
     none : named_among i.name (front ++ back) ≡ None
-    none = ap (named_among i.name) (sym objects_are) ∙ nothing (named_among i.name (objects_of rows_at tables)) (names_found rows_at i.name tables ∙ fresh)
+    none = ap (named_among i.name) (sym objects_are) ∙ nothing (named_among i.name (objects_of rows_at l)) (names_found rows_at i.name l ∙ fresh)
 
     none_at : (q : Name) → is_same_name i.name q ≡ true → named_among q (front ++ back) ≡ None
     none_at q h = ap (λ (n : Name). option_map (λ (x : Name × Object). x.1) (list.find (λ (x : Name × Object). bytes_eq (folded x.0) n) (front ++ back))) (sym (same (folded i.name) (folded q) h)) ∙ none
 
 -- ---- an index less
 
-abbrev stays : Name → Name × Object → Bool
+abbrev pub stays : Name → Name × Object → Bool
 stays name o = not (is_same_name name o.0)
 
-all_stay : (name : Name) (os : List (Name × Object)) → list_any (is_same_name name) (map (λ (o : Name × Object). o.0) os) ≡ false → filter (stays name) os ≡ os
+pub all_stay : (name : Name) (os : List (Name × Object)) → list_any (is_same_name name) (map (λ (o : Name × Object). o.0) os) ≡ false → filter (stays name) os ≡ os
 all_stay name [] none = refl
 all_stay name (o ∷ os) none =
     let both = neither (is_same_name name o.0) (list_any (is_same_name name) (map (λ (o : Name × Object). o.0) os)) none in
@@ -224,7 +234,7 @@ all_stay name (o ∷ os) none =
 abbrev index_object : Table → ListedIndex → Name × Object
 index_object t i = (i.name, AnIndex (as_index t i))
 
-turned : (a b : Name) → is_same_name a b ≡ is_same_name b a
+pub turned : (a b : Name) → is_same_name a b ≡ is_same_name b a
 turned a b = by_test (is_same_name a b) refl
   where
     by_test : (c : Bool) → is_same_name a b ≡ c → c ≡ is_same_name b a
@@ -244,7 +254,7 @@ others_stay name t (i ∷ is) = by_test (others_stay name t is) (is_same_name na
         ∙ ap (λ c. map (index_object t) (cond (not c) (i ∷ filter (λ (i : ListedIndex). not (is_same_name i.name name)) is) (filter (λ (i : ListedIndex). not (is_same_name i.name name)) is))) e
 
 -- a name that one of two parts has, the other doesn't
-abbrev is_name : Name → Name → Bool
+abbrev pub is_name : Name → Name → Bool
 is_name name n = is_same_name n name
 
 none_with : (x name : Name) (ys : List Name) → list_any (is_same_name x) ys ≡ false → list_any (is_name name) ys ≡ true → is_same_name name x ≡ false
@@ -260,7 +270,7 @@ none_with x name (y ∷ ys) none some =
     by_test other rest true e some = by_other other e (is_same_name name x) refl
     by_test other rest false e some = rest some
 
-none_before : (name : Name) (xs ys : List Name) → any_twice is_same_name (xs ++ ys) ≡ false → list_any (is_name name) ys ≡ true → list_any (is_same_name name) xs ≡ false
+pub none_before : (name : Name) (xs ys : List Name) → any_twice is_same_name (xs ++ ys) ≡ false → list_any (is_name name) ys ≡ true → list_any (is_same_name name) xs ≡ false
 none_before name [] ys once some = refl
 none_before name (x ∷ xs) ys once some =
     let both = neither (list_any (is_same_name x) (xs ++ ys)) (any_twice is_same_name (xs ++ ys)) once in
@@ -272,7 +282,7 @@ none_like x name (y ∷ ys) at none =
     let both = neither (is_same_name x y) (list_any (is_same_name x) ys) none in
     ap (λ b. b || list_any (is_same_name name) ys) (subst (λ (k : Name). bytes_eq k (folded y) ≡ false) (same (folded x) (folded name) at) both.0) ∙ none_like x name ys at both.1
 
-none_behind : (name : Name) (xs ys : List Name) → any_twice is_same_name (xs ++ ys) ≡ false → list_any (is_name name) xs ≡ true → list_any (is_same_name name) ys ≡ false
+pub none_behind : (name : Name) (xs ys : List Name) → any_twice is_same_name (xs ++ ys) ≡ false → list_any (is_name name) xs ≡ true → list_any (is_same_name name) ys ≡ false
 none_behind name [] ys once some = absurd (false≢true some)
 none_behind name (x ∷ xs) ys once some =
     let both = neither (list_any (is_same_name x) (xs ++ ys)) (any_twice is_same_name (xs ++ ys)) once in by_test both.0 (none_behind name xs ys both.1) (is_name name x) refl some
@@ -282,14 +292,14 @@ none_behind name (x ∷ xs) ys once some =
     by_test none rest true e some = none_like x name ys e (first_part (is_same_name x) xs ys none).1
     by_test none rest false e some = rest some
 
-once_second : (xs ys : List Name) → any_twice is_same_name (xs ++ ys) ≡ false → any_twice is_same_name ys ≡ false
+pub once_second : (xs ys : List Name) → any_twice is_same_name (xs ++ ys) ≡ false → any_twice is_same_name ys ≡ false
 once_second [] ys once = once
 once_second (x ∷ xs) ys once = once_second xs ys (neither (list_any (is_same_name x) (xs ++ ys)) (any_twice is_same_name (xs ++ ys)) once).1
 
 abbrev index_names_of : List Table → List Name
 index_names_of tables = flat_map (λ (t : Table). map (λ (i : ListedIndex). i.name) t.indexes) tables
 
-some_first : (p : Name → Bool) (xs ys : List Name) → list_any p xs ≡ true → list_any p (xs ++ ys) ≡ true
+pub some_first : (p : Name → Bool) (xs ys : List Name) → list_any p xs ≡ true → list_any p (xs ++ ys) ≡ true
 some_first p [] ys some = absurd (false≢true some)
 some_first p (x ∷ xs) ys some = by_test (some_first p xs ys) (p x) some
   where
@@ -305,56 +315,84 @@ some_second p (x ∷ xs) ys some = by_test (p x) (some_second p xs ys some)
     by_test true e = refl
     by_test false e = e
 
-named_index : (name : Name) (is : List ListedIndex) → list_any (λ (i : ListedIndex). is_same_name i.name name) is ≡ list_any (is_name name) (map (λ (i : ListedIndex). i.name) is)
+pub named_index : (name : Name) (is : List ListedIndex) → list_any (λ (i : ListedIndex). is_same_name i.name name) is ≡ list_any (is_name name) (map (λ (i : ListedIndex). i.name) is)
 named_index name [] = refl
 named_index name (i ∷ is) = ap (λ b. is_same_name i.name name || b) (named_index name is)
 
-table_object_names : (rows_at : ℕ → List (ℤ × List Value)) (tables : List Table) → map (λ (o : Name × Object). o.0) (map (table_object rows_at) tables) ≡ table_names tables
+pub table_object_names : (rows_at : ℕ → List (ℤ × List Value)) (tables : List Table) → map (λ (o : Name × Object). o.0) (map (table_object rows_at) tables) ≡ table_names tables
 table_object_names rows_at [] = refl
 table_object_names rows_at (t ∷ ts) = ap (λ ns. t.name ∷ ns) (table_object_names rows_at ts)
 
-module _ (rows_at : ℕ → List (ℤ × List Value)) (name : Name) (before : List Table) (t : Table) (after : List Table) (some : has_index name t ≡ true)
-    (once : any_twice is_same_name (names_of (before ++ t ∷ after)) ≡ false) where
+abbrev pub view_names_in : List View → List Name
+view_names_in views = map (λ (v : View). v.definition.name) views
+
+pub view_object_names : (views : List View) → map (λ (o : Name × Object). o.0) (map view_object views) ≡ view_names_in views
+view_object_names [] = refl
+view_object_names (v ∷ vs) = ap (λ ns. v.definition.name ∷ ns) (view_object_names vs)
+
+module _ (rows_at : ℕ → List (ℤ × List Value)) (name : Name) (views : List View) (before : List Table) (t : Table) (after : List Table) (some : has_index name t ≡ true)
+    (once : any_twice is_same_name (names_of (split_in views before t after)) ≡ false) where
+  abbrev front : List (Name × Object)
+  front = map (table_object rows_at) (before ++ t ∷ after)
+
+  abbrev seen : List (Name × Object)
+  seen = map view_object views
+
+  abbrev back : List (Name × Object)
+  back = flat_map index_objects after
+
   own_some : list_any (is_name name) (map (λ (i : ListedIndex). i.name) t.indexes) ≡ true
   own_some = sym (named_index name t.indexes) ∙ some
 
   parts : index_names_of (before ++ t ∷ after) ≡ index_names_of before ++ (map (λ (i : ListedIndex). i.name) t.indexes ++ index_names_of after)
   parts = flat_map-append (λ (t : Table). map (λ (i : ListedIndex). i.name) t.indexes) before (t ∷ after)
 
+  behind_once : any_twice is_same_name (view_names_in views ++ index_names_of (before ++ t ∷ after)) ≡ false
+  behind_once = once_second (table_names (before ++ t ∷ after)) (view_names_in views ++ index_names_of (before ++ t ∷ after)) once
+
   indexes_once : any_twice is_same_name (index_names_of before ++ (map (λ (i : ListedIndex). i.name) t.indexes ++ index_names_of after)) ≡ false
-  indexes_once = ap (any_twice is_same_name) (sym parts) ∙ once_second (table_names (before ++ t ∷ after)) (index_names_of (before ++ t ∷ after)) once
+  indexes_once = ap (any_twice is_same_name) (sym parts) ∙ once_second (view_names_in views) (index_names_of (before ++ t ∷ after)) behind_once
 
   here : list_any (is_name name) (map (λ (i : ListedIndex). i.name) t.indexes ++ index_names_of after) ≡ true
   here = some_first (is_name name) (map (λ (i : ListedIndex). i.name) t.indexes) (index_names_of after) own_some
 
-  tables_stay : filter (stays name) (map (table_object rows_at) (before ++ t ∷ after)) ≡ map (table_object rows_at) (before ++ t ∷ after)
-  tables_stay = all_stay name (map (table_object rows_at) (before ++ t ∷ after)) (ap (list_any (is_same_name name)) (table_object_names rows_at (before ++ t ∷ after))
-      ∙ none_before name (table_names (before ++ t ∷ after)) (index_names_of (before ++ t ∷ after)) once
-      (ap (list_any (is_name name)) parts ∙ some_second (is_name name) (index_names_of before) (map (λ (i : ListedIndex). i.name) t.indexes ++ index_names_of after) here))
+  among_indexes : list_any (is_name name) (index_names_of (before ++ t ∷ after)) ≡ true
+  among_indexes = ap (list_any (is_name name)) parts ∙ some_second (is_name name) (index_names_of before) (map (λ (i : ListedIndex). i.name) t.indexes ++ index_names_of after) here
+
+  tables_stay : filter (stays name) front ≡ front
+  tables_stay = all_stay name front (ap (list_any (is_same_name name)) (table_object_names rows_at (before ++ t ∷ after))
+      ∙ none_before name (table_names (before ++ t ∷ after)) (view_names_in views ++ index_names_of (before ++ t ∷ after)) once
+      (some_second (is_name name) (view_names_in views) (index_names_of (before ++ t ∷ after)) among_indexes))
+
+  views_stay : filter (stays name) seen ≡ seen
+  views_stay = all_stay name seen (ap (list_any (is_same_name name)) (view_object_names views)
+      ∙ none_before name (view_names_in views) (index_names_of (before ++ t ∷ after)) behind_once among_indexes)
 
   before_stay : filter (stays name) (flat_map index_objects before) ≡ flat_map index_objects before
   before_stay = all_stay name (flat_map index_objects before) (ap (list_any (is_same_name name)) (index_names before)
       ∙ none_before name (index_names_of before) (map (λ (i : ListedIndex). i.name) t.indexes ++ index_names_of after) indexes_once here)
 
-  after_stay : filter (stays name) (flat_map index_objects after) ≡ flat_map index_objects after
-  after_stay = all_stay name (flat_map index_objects after) (ap (list_any (is_same_name name)) (index_names after)
+  after_stay : filter (stays name) back ≡ back
+  after_stay = all_stay name back (ap (list_any (is_same_name name)) (index_names after)
       ∙ none_behind name (map (λ (i : ListedIndex). i.name) t.indexes) (index_names_of after)
       (once_second (index_names_of before) (map (λ (i : ListedIndex). i.name) t.indexes ++ index_names_of after) indexes_once) own_some)
 
-  objects_less : filter (stays name) (objects_of rows_at (before ++ t ∷ after)) ≡ objects_of rows_at (before ++ without_index name t ∷ after)
+  objects_less : filter (stays name) (objects_of rows_at (split_in views before t after)) ≡ objects_of rows_at (split_in views before (without_index name t) after)
   objects_less =
-      ap (filter (stays name)) (objects_split rows_at before t after)
-      ∙ (filter-append (stays name) (listed_before rows_at before t after) (flat_map index_objects after)
-      ∙ (ap (λ os. filter (stays name) (listed_before rows_at before t after) ++ os) after_stay
-      ∙ (ap (λ os. os ++ flat_map index_objects after) (filter-append (stays name) (map (table_object rows_at) (before ++ t ∷ after)) (flat_map index_objects before ++ index_objects t))
-      ∙ (ap (λ os. (os ++ filter (stays name) (flat_map index_objects before ++ index_objects t)) ++ flat_map index_objects after) tables_stay
-      ∙ (ap (λ os. (map (table_object rows_at) (before ++ t ∷ after) ++ os) ++ flat_map index_objects after) (filter-append (stays name) (flat_map index_objects before) (index_objects t))
-      ∙ (ap (λ os. (map (table_object rows_at) (before ++ t ∷ after) ++ (os ++ filter (stays name) (index_objects t))) ++ flat_map index_objects after) before_stay
-      ∙ (ap (λ os. (map (table_object rows_at) (before ++ t ∷ after) ++ (flat_map index_objects before ++ os)) ++ flat_map index_objects after) (others_stay name t t.indexes)
-      ∙ (ap (λ os. (os ++ (flat_map index_objects before ++ index_objects (without_index name t))) ++ flat_map index_objects after) (sym (same_tables rows_at before t (without_index name t).indexes after))
-      ∙ sym (objects_split rows_at before (without_index name t) after)))))))))
+      ap (filter (stays name)) (objects_split rows_at views before t after)
+      ∙ (filter-append (stays name) (listed_before rows_at views before t after) back
+      ∙ (ap (λ os. filter (stays name) (listed_before rows_at views before t after) ++ os) after_stay
+      ∙ (ap (λ os. os ++ back) (filter-append (stays name) front (seen ++ (flat_map index_objects before ++ index_objects t)))
+      ∙ (ap (λ os. (os ++ filter (stays name) (seen ++ (flat_map index_objects before ++ index_objects t))) ++ back) tables_stay
+      ∙ (ap (λ os. (front ++ os) ++ back) (filter-append (stays name) seen (flat_map index_objects before ++ index_objects t))
+      ∙ (ap (λ os. (front ++ (os ++ filter (stays name) (flat_map index_objects before ++ index_objects t))) ++ back) views_stay
+      ∙ (ap (λ os. (front ++ (seen ++ os)) ++ back) (filter-append (stays name) (flat_map index_objects before) (index_objects t))
+      ∙ (ap (λ os. (front ++ (seen ++ (os ++ filter (stays name) (index_objects t)))) ++ back) before_stay
+      ∙ (ap (λ os. (front ++ (seen ++ (flat_map index_objects before ++ os))) ++ back) (others_stay name t t.indexes)
+      ∙ (ap (λ os. (os ++ (seen ++ (flat_map index_objects before ++ index_objects (without_index name t)))) ++ back) (sym (same_tables rows_at before t (without_index name t).indexes after))
+      ∙ sym (objects_split rows_at views before (without_index name t) after)))))))))))
 
-kept_alike : (name : Name) (found listed : Option (Name × Object)) → option_map (λ (o : Name × Object). o.1) found ≡ option_map (λ (o : Name × Object). o.1) listed
+pub kept_alike : (name : Name) (found listed : Option (Name × Object)) → option_map (λ (o : Name × Object). o.1) found ≡ option_map (λ (o : Name × Object). o.1) listed
     → ((o x : Name × Object) → found ≡ Some o → listed ≡ Some x → folded o.0 ≡ folded x.0)
     → option_map (λ (o : Name × Object). o.1) (kept (stays name) found) ≡ option_map (λ (o : Name × Object). o.1) (kept (stays name) listed)
 kept_alike name None None e names = refl
@@ -367,40 +405,40 @@ kept_alike name (Some o) (Some x) e names = by_test (stays name x) (ap (λ (k : 
     by_test false e is = ap (λ b. option_map (λ (y : Name × Object). y.1) (cond b (Some o) None)) e
 
 pub lists_other_indexes : ListsOtherIndexes
-lists_other_indexes rows_at tables db name t is found = record {
+lists_other_indexes rows_at l db name t is found = record {
   lists = λ q.
       let entry = entry_at (folded q) db in
-      let listed = list.find (has_name q) (objects_of rows_at tables) in
+      let listed = list.find (has_name q) (objects_of rows_at l) in
       found_entry (folded q) (without_object name db)
       ∙ (ap (option_map (λ (o : Name × Object). o.1)) (found_kept (stays name) (λ (e : Name × Object). eq_by_cmp name_order (folded q) e.0) db (keyed_once (folded q) db sorted))
       ∙ (kept_alike name entry listed (sym (found_entry (folded q) db) ∙ is.lists q)
       (λ o x at there. (ap folded (sym (tells_apart exact_bytes (folded q) o.0 (found_holds (λ (e : Name × Object). eq_by_cmp name_order (folded q) e.0) db o at)))
-      ∙ (folded_twice q ∙ sym (same (folded x.0) (folded q) (found_holds (has_name q) (objects_of rows_at tables) x there)))))
-      ∙ (ap (option_map (λ (o : Name × Object). o.1)) (sym (found_kept (stays name) (has_name q) (objects_of rows_at tables) (once_named q (objects_of rows_at tables) once)))
+      ∙ (folded_twice q ∙ sym (same (folded x.0) (folded q) (found_holds (has_name q) (objects_of rows_at l) x there)))))
+      ∙ (ap (option_map (λ (o : Name × Object). o.1)) (sym (found_kept (stays name) (has_name q) (objects_of rows_at l) (once_named q (objects_of rows_at l) once)))
       ∙ ap (named_among q) left)));
-  only = only_still (stays name) db is.only;
+  quiet = only_still (stays name) db is.quiet;
   named = record {
     rising = rising (without_object name db) (sorted_still (stays name) db sorted);
     each_folded = folded_still (stays name) db is.named.each_folded;
   };
-  once = ap not (ap (any_twice is_same_name) (sym (names_are rows_at (with_replaced (without_index name t) tables)) ∙ ap (map (λ (o : Name × Object). o.0)) (sym left)) ∙ once_still (stays name) (objects_of rows_at tables) once);
+  once = ap not (ap (any_twice is_same_name) (sym (names_are rows_at (replacing (without_index name t) l)) ∙ ap (map (λ (o : Name × Object). o.0)) (sym left)) ∙ once_still (stays name) (objects_of rows_at l) once);
 }
   where
     sorted : is_sorted name_order db ≡ true
     sorted = in_order db is.named.rising
 
-    names_once : any_twice is_same_name (names_of tables) ≡ false
-    names_once = is_no (any_twice is_same_name (names_of tables)) is.once
+    names_once : any_twice is_same_name (names_of l) ≡ false
+    names_once = is_no (any_twice is_same_name (names_of l)) is.once
 
-    once : any_twice is_same_name (map (λ (o : Name × Object). o.0) (objects_of rows_at tables)) ≡ false
-    once = ap (any_twice is_same_name) (names_are rows_at tables) ∙ names_once
+    once : any_twice is_same_name (map (λ (o : Name × Object). o.0) (objects_of rows_at l)) ≡ false
+    once = ap (any_twice is_same_name) (names_are rows_at l) ∙ names_once
 
-    split : IsSplit t tables
-    split = split_at (has_index name) tables t (once_first (table_names tables) _ names_once) found
+    split : IsSplit t l.tables
+    split = split_at (has_index name) l.tables t (once_first (table_names l.tables) _ names_once) found
 
-    left : filter (stays name) (objects_of rows_at tables) ≡ objects_of rows_at (with_replaced (without_index name t) tables)
+    left : filter (stays name) (objects_of rows_at l) ≡ objects_of rows_at (replacing (without_index name t) l)
     left =
-        ap (λ (ts : List Table). filter (stays name) (objects_of rows_at ts)) split.parts
-        ∙ (objects_less rows_at name split.before t split.after (found_holds (has_index name) tables t found)
-        (subst (λ (ts : List Table). any_twice is_same_name (names_of ts) ≡ false) split.parts names_once)
-        ∙ ap (objects_of rows_at) (sym (split.replaced (without_index name t) refl)))
+        ap (λ (ts : List Table). filter (stays name) (objects_of rows_at (record l { tables = ts }))) split.parts
+        ∙ (objects_less rows_at name l.views split.before t split.after (found_holds (has_index name) l.tables t found)
+        (subst (λ (ts : List Table). any_twice is_same_name (names_of (record l { tables = ts })) ≡ false) split.parts names_once)
+        ∙ ap (λ (ts : List Table). objects_of rows_at (record l { tables = ts })) (sym (split.replaced (without_index name t) refl)))

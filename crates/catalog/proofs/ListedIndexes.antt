@@ -14,10 +14,11 @@ use Rattle.sqlval.specs.Lists.{any_twice}
 use Rattle.sqlval.specs.Names.{folded, is_same_name}
 use Rattle.sqlval.specs.declared.value.Value.{Value}
 use Rattle.catalog.specs.Database.{Name, Database, Object, ATable, AnIndex, AView, ATrigger, Index, indexes_of, name_order, object, with_object}
-use Rattle.catalog.specs.Listed.{as_index, index_objects, is_table, named_among, names_of, objects_of, table_named, table_object}
+use Rattle.catalog.specs.Listed.{Listed, as_index, index_objects, is_table, named_among, names_of, objects_of, table_named, table_object, view_object}
 use Rattle.catalog.specs.Named.{IsNamed, ListsIndexes}
 use Rattle.catalog.specs.declared.tables.Index.{Index as ListedIndex}
 use Rattle.catalog.specs.declared.tables.Table.{Table}
+use Rattle.catalog.specs.declared.tables.View.{View}
 use Rattle.catalog.proofs.Dropped.{is_no, joined, names_are, neither, other_name}
 use Rattle.catalog.proofs.NamedDatabases.{folded_twice, keeps_named, one_database, same_test}
 
@@ -105,6 +106,10 @@ module _ (rows_at : ℕ → List (ℤ × List Value)) (name : Name) (p : Index �
   no_tables [] = refl
   no_tables (t ∷ ts) = no_tables ts
 
+  no_views : (views : List View) → list_any (λ o. on name p o.1) (map view_object views) ≡ false
+  no_views [] = refl
+  no_views (v ∷ vs) = no_views vs
+
   of_indexes : (t : Table) (is : List ListedIndex) (os : List (Name × Object))
       → list_any (λ o. on name p o.1) (map (λ (i : ListedIndex). (i.name, AnIndex (as_index t i))) is ++ os)
       ≡ (is_same_name (folded t.name) name && list_any (λ i. p (as_index t i)) is) || list_any (λ o. on name p o.1) os
@@ -174,14 +179,16 @@ module _ (rows_at : ℕ → List (ℤ × List Value)) (name : Name) (p : Index �
     by false e same more = ap (λ b. (b && list_any (λ i. p (as_index u i)) u.indexes) || list_any here us) e ∙ more same
 
 pub lists_indexes : ListsIndexes
-lists_indexes rows_at tables db name t p of found =
-    let once : any_twice is_same_name (names_of tables) ≡ false = is_no (any_twice is_same_name (names_of tables)) of.once in
-    let objects = objects_of rows_at tables in
+lists_indexes rows_at l db name t p of found =
+    let once : any_twice is_same_name (names_of l) ≡ false = is_no (any_twice is_same_name (names_of l)) of.once in
+    let objects = objects_of rows_at l in
     let same : db ≡ made objects = one_database db (made objects) of.named (made_named objects) (λ other. of.lists other ∙ sym (made_finds objects other)) in
     any_on name p db
     ∙ ap (list_any (λ (o : Name × Object). on name p o.1)) same
-    ∙ any_made (on name p) objects (ap (any_twice is_same_name) (names_are rows_at tables) ∙ once)
-    ∙ list_any-append (λ (o : Name × Object). on name p o.1) (map (table_object rows_at) tables) (flat_map index_objects tables)
-    ∙ ap (λ b. b || list_any (λ (o : Name × Object). on name p o.1) (flat_map index_objects tables)) (no_tables rows_at name p tables)
-    ∙ of_tables rows_at name p tables
-    ∙ found_alone rows_at name p tables (flat_map (λ (t : Table). map (λ (i : ListedIndex). i.name) t.indexes) tables) t once found
+    ∙ any_made (on name p) objects (ap (any_twice is_same_name) (names_are rows_at l) ∙ once)
+    ∙ list_any-append (λ (o : Name × Object). on name p o.1) (map (table_object rows_at) l.tables) (map view_object l.views ++ flat_map index_objects l.tables)
+    ∙ ap (λ b. b || list_any (λ (o : Name × Object). on name p o.1) (map view_object l.views ++ flat_map index_objects l.tables)) (no_tables rows_at name p l.tables)
+    ∙ list_any-append (λ (o : Name × Object). on name p o.1) (map view_object l.views) (flat_map index_objects l.tables)
+    ∙ ap (λ b. b || list_any (λ (o : Name × Object). on name p o.1) (flat_map index_objects l.tables)) (no_views rows_at name p l.views)
+    ∙ of_tables rows_at name p l.tables
+    ∙ found_alone rows_at name p l.tables (map (λ (v : View). v.definition.name) l.views ++ flat_map (λ (t : Table). map (λ (i : ListedIndex). i.name) t.indexes) l.tables) t once found

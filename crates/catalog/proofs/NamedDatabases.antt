@@ -12,22 +12,23 @@ use Rattle.std.specs.FinMap.Entries.{put, find, find-put, by_order, below_all, i
 use Rattle.std.specs.List as list
 use Rattle.std.specs.List.{AllByRecursion, list_all}
 use Rattle.std.specs.Ordering.{eq_by_cmp, is_eq, is_lt}
-use Rattle.std.specs.Prelude.{T, flat_map, is_some, option_map}
+use Rattle.std.specs.Prelude.{MatchOption, T, flat_map, is_some, option_map}
 use Rattle.std.specs.Str.{bytes_eq}
 use Rattle.std.specs.declared.cmp.Ordering.{Ordering}
 use Rattle.std.specs.declared.cmp.Ordering.TheVariants.{Less, Equal, Greater}
 use Rattle.sqlval.specs.Lists.{is_rising}
 use Rattle.sqlval.specs.Names.{folded, is_same_name}
 use Rattle.sqlval.specs.declared.value.Value.{Value}
-use Rattle.catalog.specs.Database.{Name, Database, Object, ATable, AnIndex, object, with_object, name_order}
-use Rattle.catalog.specs.Laws.{IsNoTable}
-use Rattle.catalog.specs.Listed.{Lists, has_only_plain, index_objects, is_plain_object, named_among, objects_of, as_index, with_rows, table_named, table_object}
+use Rattle.catalog.specs.Database.{Name, Database, Object, ATable, AnIndex, AView, object, with_object, name_order}
+use Rattle.catalog.specs.Laws.{IsNoSource, IsNoTable}
+use Rattle.catalog.specs.Listed.{Listed, Lists, as_view, has_no_trigger, index_objects, is_no_trigger, named_among, objects_of, as_index, with_rows, table_named, table_object, view_named, view_object}
 use Rattle.catalog.specs.Named.{IsInOrder, IsNamed, KeepsNamed, ListedDatabase, ListedNames, OneDatabase}
 use Rattle.catalog.specs.Rows.{are_rows, holds_rows}
 use Rattle.catalog.specs.declared.tables.Index.{Index as ListedIndex}
 use Rattle.catalog.specs.declared.tables.Table.{Table}
-use Rattle.catalog.proofs.Found.{as_object, index_found, listed_as, no_table}
-use Rattle.catalog.proofs.OtherRows.{both_true, first_true, only_plain, rest_true}
+use Rattle.catalog.specs.declared.tables.View.{View}
+use Rattle.catalog.proofs.Found.{as_object, behind_found, listed_as, no_table}
+use Rattle.catalog.proofs.OtherRows.{both_true, first_true, no_trigger, rest_true}
 
 -- ---- rising names
 
@@ -126,14 +127,14 @@ keeps_named db name o named = record {
 pub same_test : (a b : Name) → eq_by_cmp name_order a b ≡ bytes_eq b a
 same_test a b = (eq_by_cmp_equiv nat_list_cmp_total).symm a b ∙ is_eq-slice_cmp b a
 
--- the first of some objects that are tables or plain indexes is what their database has
+-- the first of some objects of which none is a trigger is what their database has
 record IsOfObjects (objects : List (Name × Object)) (db : Database) : Type 0 where
   pub named : IsNamed db
-  pub only : has_only_plain db ≡ true
+  pub only : has_no_trigger db ≡ true
   pub finds : (name : Name) → object db name ≡ named_among name objects
 
 abbrev ArePlain : List (Name × Object) → Type 0
-ArePlain objects = AllByRecursion (λ o. is_plain_object o.1 ≡ true) objects
+ArePlain objects = AllByRecursion (λ o. is_no_trigger o.1 ≡ true) objects
 
 database_of : (objects : List (Name × Object)) → ArePlain objects → (db : Database) × IsOfObjects objects db
 database_of [] plain = ([], record { named = record { rising = refl; each_folded = tt }; only = refl; finds = λ name. refl })
@@ -142,7 +143,7 @@ database_of (o ∷ os) plain =
       with_object db o.0 o.1,
       record {
         named = keeps_named db o.0 o.1 is.named;
-        only = only_plain db o.0 o.1 is.only plain.0;
+        only = no_trigger db o.0 o.1 is.only plain.0;
         finds = λ name.
             find-put name_order nat_list_cmp_total (folded name) (folded o.0) o.1 db
             ∙ (ap (λ b. cond b (Some o.1) (object db name)) (same_test (folded name) (folded o.0))
@@ -163,19 +164,24 @@ plain_behind : (tables : List Table) → ArePlain (flat_map index_objects tables
 plain_behind [] = tt
 plain_behind (t ∷ ts) = plain_indexes t t.indexes (flat_map index_objects ts) (plain_behind ts)
 
+plain_views : (views : List View) (os : List (Name × Object)) → ArePlain os → ArePlain (map view_object views ++ os)
+plain_views [] os plain = plain
+plain_views (v ∷ vs) os plain = (refl, plain_views vs os plain)
+
 plain_tables : (rows_at : ℕ → List (ℤ × List Value)) (tables : List Table) (os : List (Name × Object)) → ArePlain os → ArePlain (map (table_object rows_at) tables ++ os)
 plain_tables rows_at [] os plain = plain
 plain_tables rows_at (t ∷ ts) os plain = (refl, plain_tables rows_at ts os plain)
 
 pub listed_database : ListedDatabase
-listed_database rows_at tables =
-    let (db, is) = database_of (objects_of rows_at tables) (plain_tables rows_at tables (flat_map index_objects tables) (plain_behind tables)) in
+listed_database rows_at l =
+    let (db, is) = database_of (objects_of rows_at l)
+    (plain_tables rows_at l.tables (map view_object l.views ++ flat_map index_objects l.tables) (plain_views l.views (flat_map index_objects l.tables) (plain_behind l.tables))) in
     (db, is.named, is.only, is.finds)
 
 -- what is found at any name
-found_listed : (rows_at : ℕ → List (ℤ × List Value)) (tables : List Table) (db : Database) (q : Name) → AreFolded db → Lists rows_at tables db
-    → find name_order q db ≡ cond (bytes_eq (folded q) q) (named_among q (objects_of rows_at tables)) None
-found_listed rows_at tables db q h lists = found_folded db q h ∙ ap (λ o. cond (bytes_eq (folded q) q) o None) (lists q)
+found_listed : (rows_at : ℕ → List (ℤ × List Value)) (l : Listed) (db : Database) (q : Name) → AreFolded db → Lists rows_at l db
+    → find name_order q db ≡ cond (bytes_eq (folded q) q) (named_among q (objects_of rows_at l)) None
+found_listed rows_at l db q h lists = found_folded db q h ∙ ap (λ o. cond (bytes_eq (folded q) q) o None) (lists q)
 
 -- a name that a test finds is the name of a listed object
 named_by : (name : Name) (b : Bool) (found : Option Object) → bytes_eq (folded name) name ≡ b
@@ -184,9 +190,9 @@ named_by name true found e h = (tells_apart exact_bytes (folded name) name (is_e
 named_by name false found e h = absurd (false≢true h)
 
 pub listed_names : ListedNames
-listed_names rows_at tables db named lists name = (
-  λ contains. named_by name (bytes_eq (folded name) name) (named_among name (objects_of rows_at tables)) refl
-      (sym (ap is_some (found_listed rows_at tables db name named.each_folded lists)) ∙ (is_some-find name_order name db
+listed_names rows_at l db named lists name = (
+  λ contains. named_by name (bytes_eq (folded name) name) (named_among name (objects_of rows_at l)) refl
+      (sym (ap is_some (found_listed rows_at l db name named.each_folded lists)) ∙ (is_some-find name_order name db
       ∙ list_any-from_Contains (eq_by_cmp_equiv nat_list_cmp_total) name (map (λ o. o.0) db) contains)),
   λ h. Contains-from_any (tells_apart exact_bytes) name (map (λ o. o.0) db) (sym (is_some-find name_order name db)
       ∙ (ap is_some (ap (λ n. find name_order n db) (sym h.0) ∙ lists name) ∙ h.1)),
@@ -221,26 +227,30 @@ same_object : (some other : Object) → Some some ≡ Some other → some ≡ ot
 same_object some other e = cc
 
 -- the rows of a table that is found are such as it may hold, and no other object has rows
-rows_in : (rows_at : ℕ → List (ℤ × List Value)) (behind o : Object) (found : Option Table) → IsNoTable (Some behind) → ((t : Table) → found ≡ Some t → are_rows (with_rows t (rows_at t.root)) ≡ true)
-    → as_object rows_at (Some behind) found ≡ Some o → holds_rows o ≡ true
-rows_in rows_at behind o (Some t) index each h = ap holds_rows (sym (same_object (ATable (with_rows t (rows_at t.root))) o h)) ∙ each t refl
-rows_in rows_at behind o None (inl none) each h = absurd (some_is_none behind none)
-rows_in rows_at behind o None (inr (i, is)) each h = ap holds_rows (sym (same_object behind o h) ∙ same_object behind (AnIndex i) is)
+rows_in : (rows_at : ℕ → List (ℤ × List Value)) (behind : Option Object) (o : Object) (found : Option Table) → ((x : Object) → behind ≡ Some x → holds_rows x ≡ true)
+    → ((t : Table) → found ≡ Some t → are_rows (with_rows t (rows_at t.root)) ≡ true) → as_object rows_at behind found ≡ Some o → holds_rows o ≡ true
+rows_in rows_at behind o (Some t) others each h = ap holds_rows (sym (same_object (ATable (with_rows t (rows_at t.root))) o h)) ∙ each t refl
+rows_in rows_at behind o None others each h = others o h
 
-rows_of_found : (rows_at : ℕ → List (ℤ × List Value)) (behind : Option Object) (o : Object) (found : Option Table) → IsNoTable behind → ((t : Table) → found ≡ Some t → are_rows (with_rows t (rows_at t.root)) ≡ true)
-    → as_object rows_at behind found ≡ Some o → holds_rows o ≡ true
-rows_of_found rows_at (Some behind) o found index each h = rows_in rows_at behind o found index each h
-rows_of_found rows_at None o (Some t) index each h = ap holds_rows (sym (same_object (ATable (with_rows t (rows_at t.root))) o h)) ∙ each t refl
-rows_of_found rows_at None o None index each h = absurd (some_is_none o (sym h))
+no_rows_in : (found : Option Object) → IsNoSource found → (x : Object) → found ≡ Some x → holds_rows x ≡ true
+no_rows_in found (inl none) x h = absurd (some_is_none x (sym h ∙ none))
+no_rows_in found (inr (i, is)) x h = ap holds_rows (same_object x (AnIndex i) (sym h ∙ is))
+
+no_rows_behind : (name : Name) (l : Listed) (x : Object) → behind_found name l ≡ Some x → holds_rows x ≡ true
+no_rows_behind name l x h = by_case (view_named name l.views) (no_table name l)
+  where
+    by_case : (found : Option View) → MatchOption found (IsNoSource (behind_found name l)) (λ v. behind_found name l ≡ Some (AView (as_view v))) → holds_rows x ≡ true
+    by_case None none = no_rows_in (behind_found name l) none x h
+    by_case (Some v) is = ap holds_rows (same_object x (AView (as_view v)) (sym h ∙ is))
 
 rows_by : (o : Object) (b : Bool) (found : Option Object) → (found ≡ Some o → holds_rows o ≡ true) → cond b found None ≡ Some o → holds_rows o ≡ true
 rows_by o true found each h = each h
 rows_by o false found each h = absurd (some_is_none o (sym h))
 
 pub listed_in_order : IsInOrder
-listed_in_order rows_at tables db named lists each =
+listed_in_order rows_at l db named lists each =
     both_true (is_rising name_order (map (λ o. o.0) db)) (list_all (λ o. holds_rows o.1) db) named.rising
     (each_found db (in_order db named.rising) (λ q o found.
-    rows_by o (bytes_eq (folded q) q) (named_among q (objects_of rows_at tables))
-    (λ is. rows_of_found rows_at (index_found q tables) o (table_named q tables) (no_table q tables) (each q) (sym (listed_as rows_at q tables) ∙ is))
-    (sym (found_listed rows_at tables db q named.each_folded lists) ∙ found)))
+    rows_by o (bytes_eq (folded q) q) (named_among q (objects_of rows_at l))
+    (λ is. rows_in rows_at (behind_found q l) o (table_named q l.tables) (no_rows_behind q l) (each q) (sym (listed_as rows_at q l) ∙ is))
+    (sym (found_listed rows_at l db q named.each_folded lists) ∙ found)))

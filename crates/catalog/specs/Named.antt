@@ -1,11 +1,11 @@
--- Databases whose names are in order and folded, and those that tables are listed of.
+-- Databases whose names are in order and folded, and those of which objects are listed.
 use Rattle.std.specs.Prelude.{◌≡◌, ◌↔◌, ℕ, ℤ, Bool, true, not, ◌||◌, filter, is_some, List, map, Some}
 use Rattle.std.specs.List.{AllByRecursion, Contains, list_any}
 use Rattle.sqlval.specs.Lists.{is_rising}
 use Rattle.sqlval.specs.Names.{folded, is_same_name}
 use Rattle.sqlval.specs.declared.value.Value.{Value}
 use Rattle.catalog.specs.Database.{Name, Database, Object, AnIndex, Index, indexes_of, name_order, object, with_object}
-use Rattle.catalog.specs.Listed.{Lists, are_named_once, as_index, has_only_plain, named_among, objects_of, with_rows, table_named, without_table}
+use Rattle.catalog.specs.Listed.{Listed, Lists, are_named_once, as_index, has_no_trigger, named_among, objects_of, with_rows, table_named, without_table}
 use Rattle.catalog.specs.Rows.{are_rows, is_in_order}
 use Rattle.catalog.specs.declared.tables.Table.{Table}
 
@@ -22,19 +22,19 @@ OneDatabase = (a b : Database) → IsNamed a → IsNamed b → ((name : Name) �
 abbrev pub KeepsNamed : Type 0
 KeepsNamed = (db : Database) (name : Name) (o : Object) → IsNamed db → IsNamed (with_object db name o)
 
--- any tables with their indexes, with any rows, are those of a database without other objects
+-- any listed objects, their tables with any rows, are those of a database without other objects
 abbrev pub ListedDatabase : Type 0
-ListedDatabase = (rows_at : ℕ → List (ℤ × List Value)) (tables : List Table) → (db : Database) × IsNamed db × (has_only_plain db ≡ true) × Lists rows_at tables db
+ListedDatabase = (rows_at : ℕ → List (ℤ × List Value)) (l : Listed) → (db : Database) × IsNamed db × (has_no_trigger db ≡ true) × Lists rows_at l db
 
--- a database of listed tables is in order where each table's rows are such as it may hold
+-- a database of listed objects is in order where each table's rows are such as it may hold
 abbrev pub IsInOrder : Type 0
-IsInOrder = (rows_at : ℕ → List (ℤ × List Value)) (tables : List Table) (db : Database) → IsNamed db → Lists rows_at tables db
-    → ((name : Name) (t : Table) → table_named name tables ≡ Some t → are_rows (with_rows t (rows_at t.root)) ≡ true) → is_in_order db ≡ true
+IsInOrder = (rows_at : ℕ → List (ℤ × List Value)) (l : Listed) (db : Database) → IsNamed db → Lists rows_at l db
+    → ((name : Name) (t : Table) → table_named name l.tables ≡ Some t → are_rows (with_rows t (rows_at t.root)) ≡ true) → is_in_order db ≡ true
 
--- a database of listed tables has their names and those of their indexes, folded, and no others
+-- a database of listed objects has their names, folded, and no others
 abbrev pub ListedNames : Type 0
-ListedNames = (rows_at : ℕ → List (ℤ × List Value)) (tables : List Table) (db : Database) → IsNamed db → Lists rows_at tables db
-    → (name : Name) → Contains (map (λ o. o.0) db) name ↔ ((folded name ≡ name) × (is_some (named_among name (objects_of rows_at tables)) ≡ true))
+ListedNames = (rows_at : ℕ → List (ℤ × List Value)) (l : Listed) (db : Database) → IsNamed db → Lists rows_at l db
+    → (name : Name) → Contains (map (λ o. o.0) db) name ↔ ((folded name ≡ name) × (is_some (named_among name (objects_of rows_at l)) ≡ true))
 
 -- whether an object goes where the table of a name is dropped: it has the name, or it is an index on the table
 abbrev pub goes_with_table : Name → Name × Object → Bool
@@ -45,19 +45,19 @@ goes_with_table name (other, o) = is_same_name name other
 abbrev pub without_table_object : Name → Database → Database
 without_table_object name db = filter (λ o. not (goes_with_table name o)) db
 
--- the database is one of these tables and their indexes and no other objects, with its names in order
-pub record IsOfTables (rows_at : ℕ → List (ℤ × List Value)) (tables : List Table) (db : Database) : Type 0 where
-  pub lists : Lists rows_at tables db
-  pub only : has_only_plain db ≡ true
+-- the database has what is listed and no other objects, with its names in order
+pub record IsOfListed (rows_at : ℕ → List (ℤ × List Value)) (l : Listed) (db : Database) : Type 0 where
+  pub lists : Lists rows_at l db
+  pub quiet : has_no_trigger db ≡ true
   pub named : IsNamed db
-  pub once : are_named_once tables ≡ true
+  pub once : are_named_once l ≡ true
 
--- A database of tables without one of them and its indexes is that of the other tables, with the rows that they had.
+-- A listed database without one of its tables and its indexes is that of the others, with the rows that they had.
 abbrev pub ListsOthers : Type 0
-ListsOthers = (rows_at : ℕ → List (ℤ × List Value)) (tables : List Table) (db : Database) (name : Name) (t : Table) → IsOfTables rows_at tables db
-    → table_named name tables ≡ Some t → IsOfTables rows_at (without_table name tables) (without_table_object name db)
+ListsOthers = (rows_at : ℕ → List (ℤ × List Value)) (l : Listed) (db : Database) (name : Name) (t : Table) → IsOfListed rows_at l db
+    → table_named name l.tables ≡ Some t → IsOfListed rows_at (record l { tables = without_table name l.tables }) (without_table_object name db)
 
 -- Where a table is listed, a test is true of one of the database's indexes on it exactly where it is true of one that is listed with it.
 abbrev pub ListsIndexes : Type 0
-ListsIndexes = (rows_at : ℕ → List (ℤ × List Value)) (tables : List Table) (db : Database) (name : Name) (t : Table) (test : Index → Bool) → IsOfTables rows_at tables db
-    → table_named name tables ≡ Some t → list_any (λ i. test i.1) (indexes_of db name) ≡ list_any (λ i. test (as_index t i)) t.indexes
+ListsIndexes = (rows_at : ℕ → List (ℤ × List Value)) (l : Listed) (db : Database) (name : Name) (t : Table) (test : Index → Bool) → IsOfListed rows_at l db
+    → table_named name l.tables ≡ Some t → list_any (λ i. test i.1) (indexes_of db name) ≡ list_any (λ i. test (as_index t i)) t.indexes

@@ -3,8 +3,8 @@ use Rattle.std.specs.Prelude.{◌≡◌, ℕ, ℤ, false, not, filter, List, [],
 use Rattle.sqlval.specs.Names.{is_same_name}
 use Rattle.sqlval.specs.declared.value.Value.{Value}
 use Rattle.catalog.specs.Database.{Name, Database, AnIndex, with_object}
-use Rattle.catalog.specs.Listed.{is_name_of, as_index, table_named, table_with_index, with_replaced}
-use Rattle.catalog.specs.Named.{IsOfTables}
+use Rattle.catalog.specs.Listed.{Listed, is_name_of, as_index, table_named, table_with_index, with_replaced}
+use Rattle.catalog.specs.Named.{IsOfListed}
 use Rattle.catalog.specs.declared.tables.Index.{Index as ListedIndex}
 use Rattle.catalog.specs.declared.tables.Table.{Table}
 
@@ -20,13 +20,17 @@ without_index name t = record t { indexes = filter (λ i. not (is_same_name i.na
 abbrev pub without_object : Name → Database → Database
 without_object name db = filter (λ o. not (is_same_name name o.0)) db
 
+-- what is listed, with this table in place of those of its name
+abbrev pub replacing : Table → Listed → Listed
+replacing t l = record l { tables = with_replaced t l.tables }
+
 -- An index of a new name, listed with a table, is listed in the database, and the others as they were.
 abbrev pub ListsNewIndex : Type 0
-ListsNewIndex = (rows_at : ℕ → List (ℤ × List Value)) (tables : List Table) (db : Database) (t : Table) (i : ListedIndex) → IsOfTables rows_at tables db
-    → table_named t.name tables ≡ Some t → is_name_of tables i.name ≡ false
-    → IsOfTables rows_at (with_replaced (with_index i t) tables) (with_object db i.name (AnIndex (as_index t i)))
+ListsNewIndex = (rows_at : ℕ → List (ℤ × List Value)) (l : Listed) (db : Database) (t : Table) (i : ListedIndex) → IsOfListed rows_at l db
+    → table_named t.name l.tables ≡ Some t → is_name_of l i.name ≡ false
+    → IsOfListed rows_at (replacing (with_index i t) l) (with_object db i.name (AnIndex (as_index t i)))
 
--- A database without one of the indexes is that of the tables with their other indexes.
+-- A listed database without one of the indexes is that of the tables with their other indexes.
 abbrev pub ListsOtherIndexes : Type 0
-ListsOtherIndexes = (rows_at : ℕ → List (ℤ × List Value)) (tables : List Table) (db : Database) (name : Name) (t : Table) → IsOfTables rows_at tables db
-    → table_with_index name tables ≡ Some t → IsOfTables rows_at (with_replaced (without_index name t) tables) (without_object name db)
+ListsOtherIndexes = (rows_at : ℕ → List (ℤ × List Value)) (l : Listed) (db : Database) (name : Name) (t : Table) → IsOfListed rows_at l db
+    → table_with_index name l.tables ≡ Some t → IsOfListed rows_at (replacing (without_index name t) l) (without_object name db)

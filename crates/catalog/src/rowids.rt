@@ -1,10 +1,10 @@
 //! Rowids of the schema table that are free.
 
-ghost use Rattle.std.specs.Prelude.{◌≡◌, ◌<◌, ◌++◌, ℤ, length, slice_index_or, false, IfOk, IfErr, OnOk};
+ghost use Rattle.std.specs.Prelude.{◌≡◌, ◌<◌, ◌++◌, ℤ, length, slice_index_or, false, flat_map, IfOk, IfErr, OnOk};
 ghost use Rattle.catalog.specs.Listed as listed;
 ghost use Rattle.catalog.specs.UnusedRowids as unused;
 
-use crate::tables::{Index, Table};
+use crate::tables::{Index, Table, View};
 use sqlval::{Fault, R};
 use std::alloc::Global;
 use std::rc::Rc;
@@ -35,14 +35,34 @@ fn push_rowids(rowids: &mut Vec<i64>, table: &Table) -> R<()>
     Ok(())
 }
 
+/// The rowid of a view's row.
+fn rowid_of_view(view: &View) -> i64
+    ensures { result ≡ view.now.rowid }
+{
+    view.rowid
+}
+
 /// The rowids of the rows of tables and of their indexes. (`Memory` alone.)
-pub(crate) fn rowids_of(alloc: Global, tables: &[Rc<Table>]) -> R<Vec<i64>>
-    ensures are { IfOk result (λ rowids. rowids.items ≡ listed.rowids_of (listed.shared tables.now)) }
+fn table_rowids(alloc: Global, tables: &[Rc<Table>]) -> R<Vec<i64>>
+    ensures are { IfOk result (λ rowids. rowids.items ≡ flat_map listed.rowids_in (listed.shared tables.now)) }
     ensures refused { IfErr result (λ fault. fault ≡ Fault.Memory) }
 {
     let mut rowids = Vec::new(alloc);
     'tables: for table in tables {
         push_rowids(&mut rowids, table)?;
+    }
+    Ok(rowids)
+}
+
+/// The rowids of the rows of tables, of their indexes and of views. (`Memory` alone.)
+pub(crate) fn rowids_of(alloc: Global, tables: &[Rc<Table>], views: &[Rc<View>]) -> R<Vec<i64>>
+    ensures are { IfOk result (λ rowids. rowids.items
+        ≡ listed.rowids_of (record { tables = listed.shared tables.now; views = listed.shared views.now })) }
+    ensures refused { IfErr result (λ fault. fault ≡ Fault.Memory) }
+{
+    let mut rowids = table_rowids(alloc, tables)?;
+    'views: for view in views {
+        rowids.push(rowid_of_view(view))?;
     }
     Ok(rowids)
 }

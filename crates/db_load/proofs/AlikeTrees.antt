@@ -6,19 +6,21 @@ use Rattle.pages.specs.Map.{PageMap}
 use Rattle.tree_page.specs.Cells.{Pairwise}
 use Rattle.db_layout.specs.Layout.{IsTree, Owner, used_by}
 use Rattle.db_layout.specs.Trees.{IsEntriesTree, IsRowsTree}
-use Rattle.catalog.specs.Listed.{with_rows}
+use Rattle.catalog.specs.Listed.{Listed, with_rows}
 use Rattle.catalog.specs.Rows.{are_rows}
 use Rattle.catalog.specs.declared.tables.Index.{Index}
 use Rattle.catalog.specs.declared.tables.Table.{Table}
 use Rattle.row_scan.specs.Rows.{TableRow}
-use Rattle.db_pages.specs.Schema.{IndexTold, TableTold, Told}
+use Rattle.db_pages.specs.Schema.{IndexTold, TableTold, Told, ViewTold}
 use Rattle.db_pages.specs.Stored.{AreHeld, all_trees}
 use Rattle.db_pages.proofs.ReorderedPairs.{pairs_both, reordered_count, reordered_pairs}
 use Rattle.db_load.specs.Loading.{bare}
-use Rattle.db_load.specs.Reading.{AreAlike, parts_of}
+use Rattle.db_load.specs.Reading.{AreAlike}
 use Rattle.db_load.specs.Uses.{HasTrees, pages_held}
+use Rattle.db_load.proofs.KeyTotals.{AreAlikeTables, tables_alike}
 use Rattle.db_load.proofs.RowsByRoot.{fit_for_all, rows_in, trees_in, trees_lie}
 use Rattle.db_load.proofs.ToldAdded.{index_parts, parts_more}
+use Rattle.db_load.proofs.ToldParts.{table_parts}
 
 -- the trees of the catalog's tables, with the pages of those
 pub record HaveSamePages (pages : PageMap) (size : ℕ) (tables : List Table) (held : List (List Owner)) : Type 0 where
@@ -31,6 +33,7 @@ module _ (pages : PageMap) (size : ℕ) (rows_at : ℕ → List TableRow) where
   abbrev IsTreeTold : Told → Owner → Type 0
   IsTreeTold (TableTold t) owner = IsRowsTree t (rows_at t.root) owner × (are_rows (with_rows t (rows_at t.root)) ≡ true) × IsTree pages size owner
   IsTreeTold (IndexTold t i) owner = IsEntriesTree (rows_at t.root) i owner × IsTree pages size owner
+  IsTreeTold (ViewTold v) owner = ⊥
 
   indexes_told : (t : Table) (is : List Index) (owners : List Owner) → Pairwise (IsEntriesTree (rows_at t.root)) is owners → AllByRecursion (IsTree pages size) owners
       → Pairwise IsTreeTold (map (λ (i : Index). IndexTold (bare t) i) is) owners
@@ -50,14 +53,14 @@ module _ (pages : PageMap) (size : ℕ) (rows_at : ℕ → List TableRow) where
   all_parts [] ys all = (tt, all)
   all_parts (x ∷ xs) ys all = let rest = all_parts xs ys all.1 in ((all.0, rest.0), rest.1)
 
-  trees_told : (tables : List Table) (held : List (List Owner)) → Pairwise (AreHeld rows_at) tables held → AllByRecursion (IsTree pages size) (all_trees held) → Pairwise IsTreeTold (parts_of tables) (all_trees held)
+  trees_told : (tables : List Table) (held : List (List Owner)) → Pairwise (AreHeld rows_at) tables held → AllByRecursion (IsTree pages size) (all_trees held) → Pairwise IsTreeTold (table_parts tables) (all_trees held)
   trees_told [] [] each lie = tt
   trees_told [] (trees ∷ held) each lie = absurd each
   trees_told (t ∷ tables) [] each lie = absurd each
   trees_told (t ∷ tables) (trees ∷ held) each lie =
       let both = all_parts trees (all_trees held) lie in
       subst (λ (items : List Told). Pairwise IsTreeTold items (trees ++ all_trees held)) (sym (parts_more t tables))
-      (pairs_both IsTreeTold (TableTold (bare t) ∷ index_parts t) (parts_of tables) trees (all_trees held) (table_told t trees each.0 both.0) (trees_told tables held each.1 both.1))
+      (pairs_both IsTreeTold (TableTold (bare t) ∷ index_parts t) (table_parts tables) trees (all_trees held) (table_told t trees each.0 both.0) (trees_told tables held each.1 both.1))
 
   -- the other way about
 
@@ -97,11 +100,11 @@ module _ (pages : PageMap) (size : ℕ) (rows_at : ℕ → List TableRow) where
     each : Pairwise (HasTrees pages size) tables trees
     parts : all_trees trees ≡ owners
 
-  trees_held : (tables : List Table) (owners : List Owner) → Pairwise IsTreeTold (parts_of tables) owners → AreHeldSo tables owners
+  trees_held : (tables : List Table) (owners : List Owner) → Pairwise IsTreeTold (table_parts tables) owners → AreHeldSo tables owners
   trees_held [] [] each = record { trees = []; each = tt; parts = refl }
   trees_held [] (owner ∷ owners) each = absurd each
   trees_held (t ∷ tables) owners each =
-      let parts = cut (TableTold (bare t) ∷ index_parts t) (parts_of tables) owners (subst (λ (items : List Told). Pairwise IsTreeTold items owners) (parts_more t tables) each) in
+      let parts = cut (TableTold (bare t) ∷ index_parts t) (table_parts tables) owners (subst (λ (items : List Told). Pairwise IsTreeTold items owners) (parts_more t tables) each) in
       let rest = trees_held tables parts.back parts.then in
       record {
         trees = parts.front ∷ rest.trees;
@@ -109,18 +112,18 @@ module _ (pages : PageMap) (size : ℕ) (rows_at : ℕ → List TableRow) where
         parts = ap (λ os. parts.front ++ os) rest.parts ∙ sym parts.parts;
       }
 
-  pub alike_trees : (tables others : List Table) (held : List (List Owner)) → AreAlike tables others → Pairwise (AreHeld rows_at) tables held → AllByRecursion (IsTree pages size) (all_trees held)
+  pub alike_trees : (tables others : List Table) (held : List (List Owner)) → AreAlikeTables tables others → Pairwise (AreHeld rows_at) tables held → AllByRecursion (IsTree pages size) (all_trees held)
       → HaveSamePages pages size others held
   alike_trees tables others held alike each lie =
-      let moved = reordered_pairs IsTreeTold (parts_of tables) (all_trees held) (parts_of others) (trees_told tables held each lie) alike in
+      let moved = reordered_pairs IsTreeTold (table_parts tables) (all_trees held) (table_parts others) (trees_told tables held each lie) alike in
       let so = trees_held others moved.0 moved.1 in record {
         trees = so.trees;
         each = so.each;
         as_often = λ n. ap (λ os. occurs n (used_by os)) so.parts ∙ sym (reordered_count n (λ (owner : Owner). owner.used) (all_trees held) moved.0 moved.2);
       }
 
--- the trees of tables, none of whose pages is used twice, are those of others that are alike
-pub same_trees : (pages : PageMap) (size : ℕ) (tables others : List Table) (held : List (List Owner)) → AreAlike tables others → Pairwise (HasTrees pages size) tables held → ((n : ℕ) → occurs n (pages_held held) ≤ 1)
-    → HaveSamePages pages size others held
-same_trees pages size tables others held alike each once =
-    alike_trees pages size (rows_in pages size tables held each) tables others held alike (trees_in pages size tables held each once) (trees_lie pages size tables held each)
+-- the trees of tables, none of whose pages is used twice, are those of others that are listed alike
+pub same_trees : (pages : PageMap) (size : ℕ) (l others : Listed) (held : List (List Owner)) → AreAlike l others → Pairwise (HasTrees pages size) l.tables held → ((n : ℕ) → occurs n (pages_held held) ≤ 1)
+    → HaveSamePages pages size others.tables held
+same_trees pages size l others held alike each once =
+    alike_trees pages size (rows_in pages size l.tables held each) l.tables others.tables held (tables_alike l others alike) (trees_in pages size l.tables held each once) (trees_lie pages size l.tables held each)

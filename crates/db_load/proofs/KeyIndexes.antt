@@ -9,19 +9,20 @@ use Rattle.sqlval.specs.Names.{folded, is_same_name}
 use Rattle.sqlval.specs.declared.collation.Collation.{Collation}
 use Rattle.catalog.specs.Database as database
 use Rattle.catalog.specs.Database.{AnIndex, Name, Object}
-use Rattle.catalog.specs.Listed.{as_index, key_columns}
+use Rattle.catalog.specs.Listed.{Listed, as_index, key_columns}
 use Rattle.catalog.specs.declared.tables.Index.{Index}
 use Rattle.catalog.specs.declared.tables.Table.{Table}
+use Rattle.catalog.specs.declared.tables.View.{View}
 use Rattle.catalog.proofs.NamedDatabases.{folded_twice}
 use Rattle.query_names.specs.Schema.{automatic, automatic_name}
-use Rattle.db_pages.specs.Schema.{HasKeyIndexes, IndexTold, TableTold, Told, all_told, automatic_objects, due_objects}
+use Rattle.db_pages.specs.Schema.{HasKeyIndexes, IndexTold, TableTold, Told, ViewTold, all_told, automatic_objects, due_objects, tables_told}
 use Rattle.db_load.specs.Loading.{bare}
 use Rattle.db_load.specs.Reading.{AreDueOnce, IsDue, IsDueTold, StandsIn, has_all_keys, name_told, parts_of}
 use Rattle.db_pages.proofs.Reordering.{reordered_map}
 use Rattle.db_load.proofs.DueItems.{all_of, all_of_them, differ, few, once_kept}
 use Rattle.db_load.proofs.Items.{all_back, all_both, all_front, among_filter, among_map, among_reordered}
 use Rattle.db_load.proofs.ToldAdded.{index_parts, once_first, parts_more}
-use Rattle.db_load.proofs.ToldParts.{AreApart, apart_more, index_names, map_append, names_told, neither, reordered_twice}
+use Rattle.db_load.proofs.ToldParts.{AreApart, apart_first, apart_more, index_names, map_append, names_told, neither, of_tables, reordered_twice, table_parts}
 
 -- ---- what the keys ask for
 
@@ -134,25 +135,25 @@ abbrev pub HasOwnNames : Table → Type 0
 HasOwnNames t = any_twice is_same_name (names_in t) ≡ false
 
 -- the indexes of each table have different names
-pub own_names : (ts : List Table) → AreApart (all_told ts) → AllByRecursion HasOwnNames ts
+pub own_names : (ts : List Table) → AreApart (tables_told ts) → AllByRecursion HasOwnNames ts
 own_names [] apart = tt
 own_names (t ∷ ts) apart =
-    let more : AreApart (map (λ (i : Index). IndexTold t i) t.indexes ++ all_told ts) =
-    (neither (list_any (is_same_name t.name) (names_told (map (λ (i : Index). IndexTold t i) t.indexes ++ all_told ts)))
-    (any_twice is_same_name (names_told (map (λ (i : Index). IndexTold t i) t.indexes ++ all_told ts))) apart).1 in (
+    let more : AreApart (map (λ (i : Index). IndexTold t i) t.indexes ++ tables_told ts) =
+    (neither (list_any (is_same_name t.name) (names_told (map (λ (i : Index). IndexTold t i) t.indexes ++ tables_told ts)))
+    (any_twice is_same_name (names_told (map (λ (i : Index). IndexTold t i) t.indexes ++ tables_told ts))) apart).1 in (
       sym (ap (any_twice is_same_name) (index_names t t.indexes))
-          ∙ once_first (names_told (map (λ (i : Index). IndexTold t i) t.indexes)) (names_told (all_told ts))
-          (sym (ap (any_twice is_same_name) (map_append name_told (map (λ (i : Index). IndexTold t i) t.indexes) (all_told ts))) ∙ more),
-      own_names ts (apart_more (map (λ (i : Index). IndexTold t i) t.indexes) (all_told ts) more),
+          ∙ once_first (names_told (map (λ (i : Index). IndexTold t i) t.indexes)) (names_told (tables_told ts))
+          (sym (ap (any_twice is_same_name) (map_append name_told (map (λ (i : Index). IndexTold t i) t.indexes) (tables_told ts))) ∙ more),
+      own_names ts (apart_more (map (λ (i : Index). IndexTold t i) t.indexes) (tables_told ts) more),
     )
 
-and_parts : (a b : Bool) → (a && b) ≡ true → (a ≡ true) × (b ≡ true)
+pub and_parts : (a b : Bool) → (a && b) ≡ true → (a ≡ true) × (b ≡ true)
 and_parts true b h = (refl, h)
 and_parts false b h = absurd (false≢true h)
 
 -- where each has as many as keys
-pub have_keys : (ts : List Table) → AreApart (all_told ts) → AreAllDue ts → list_all has_all_keys ts ≡ true → AllByRecursion HasKeyIndexes ts
-have_keys ts apart due many = of_each ts (own_names ts apart) due many
+pub have_keys : (l : Listed) → AreApart (all_told l) → AreAllDue l.tables → list_all has_all_keys l.tables ≡ true → AllByRecursion HasKeyIndexes l.tables
+have_keys l apart due many = of_each l.tables (own_names l.tables (apart_first (tables_told l.tables) (map ViewTold l.views) apart)) due many
   where
     of_each : (us : List Table) → AllByRecursion HasOwnNames us → AreAllDue us → list_all has_all_keys us ≡ true → AllByRecursion HasKeyIndexes us
     of_each [] once due many = tt
@@ -171,33 +172,43 @@ due_indexes t [] all = tt
 due_indexes t (i ∷ is) all = (all.0, due_indexes t is all.1)
 
 -- the same of the parts
-pub parts_due : (ts : List Table) → AreAllDue ts → AllByRecursion IsDueTold (parts_of ts)
+pub parts_due : (ts : List Table) → AreAllDue ts → AllByRecursion IsDueTold (table_parts ts)
 parts_due [] all = tt
 parts_due (t ∷ ts) all =
-    subst (AllByRecursion IsDueTold) (sym (parts_more t ts)) (tt, all_both IsDueTold (index_parts t) (parts_of ts) (due_indexes t t.indexes all.0) (parts_due ts all.1))
+    subst (AllByRecursion IsDueTold) (sym (parts_more t ts)) (tt, all_both IsDueTold (index_parts t) (table_parts ts) (due_indexes t t.indexes all.0) (parts_due ts all.1))
 
-pub due_parts : (ts : List Table) → AllByRecursion IsDueTold (parts_of ts) → AreAllDue ts
+pub due_parts : (ts : List Table) → AllByRecursion IsDueTold (table_parts ts) → AreAllDue ts
 due_parts [] all = tt
 due_parts (t ∷ ts) all =
     let more = subst (AllByRecursion IsDueTold) (parts_more t ts) all in
-    (indexes_due t t.indexes (all_front IsDueTold (index_parts t) (parts_of ts) more.1), due_parts ts (all_back IsDueTold (index_parts t) (parts_of ts) more.1))
+    (indexes_due t t.indexes (all_front IsDueTold (index_parts t) (table_parts ts) more.1), due_parts ts (all_back IsDueTold (index_parts t) (table_parts ts) more.1))
+
+-- and of those of all that is listed
+pub due_listed : (l : Listed) → AllByRecursion IsDueTold (parts_of l) → AreAllDue l.tables
+due_listed l all = due_parts l.tables (of_tables IsDueTold l all)
 
 -- an index can come to its table: if it is automatic, a key asks for it
 abbrev pub CanComeDue : Told → Type 0
 CanComeDue (TableTold t) = ⊤
 CanComeDue (IndexTold t i) = IsDue t i × AreDueOnce t
+CanComeDue (ViewTold v) = ⊤
 
 -- of tables that have the indexes that their keys ask for, each can
-pub told_due : (ts : List Table) → AreApart (all_told ts) → AllByRecursion HasKeyIndexes ts → AllByRecursion CanComeDue (all_told ts)
-told_due ts apart keys = of_each ts (own_names ts apart) keys
+pub told_due : (l : Listed) → AreApart (all_told l) → AllByRecursion HasKeyIndexes l.tables → AllByRecursion CanComeDue (all_told l)
+told_due l apart keys =
+    all_both CanComeDue (tables_told l.tables) (map ViewTold l.views) (of_each l.tables (own_names l.tables (apart_first (tables_told l.tables) (map ViewTold l.views) apart)) keys) (of_views l.views)
   where
     of_indexes : (u : Table) (is : List Index) → AreDueOnce u → AllByRecursion (IsDue u) is → AllByRecursion CanComeDue (map (λ (i : Index). IndexTold u i) is)
     of_indexes u [] once due = tt
     of_indexes u (i ∷ is) once due = ((due.0, once), of_indexes u is once due.1)
 
-    of_each : (us : List Table) → AllByRecursion HasOwnNames us → AllByRecursion HasKeyIndexes us → AllByRecursion CanComeDue (all_told us)
+    of_each : (us : List Table) → AllByRecursion HasOwnNames us → AllByRecursion HasKeyIndexes us → AllByRecursion CanComeDue (tables_told us)
     of_each [] once keys = tt
     of_each (u ∷ us) once keys = (
       tt,
-      all_both CanComeDue (map (λ (i : Index). IndexTold u i) u.indexes) (all_told us) (of_indexes u u.indexes (due_once u keys.0 once.0) (are_due u keys.0)) (of_each us once.1 keys.1),
+      all_both CanComeDue (map (λ (i : Index). IndexTold u i) u.indexes) (tables_told us) (of_indexes u u.indexes (due_once u keys.0 once.0) (are_due u keys.0)) (of_each us once.1 keys.1),
     )
+
+    of_views : (vs : List View) → AllByRecursion CanComeDue (map ViewTold vs)
+    of_views [] = tt
+    of_views (v ∷ vs) = (tt, of_views vs)

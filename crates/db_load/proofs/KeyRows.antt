@@ -11,7 +11,7 @@ use Rattle.sqlval.specs.Names.{folded, is_same_name}
 use Rattle.sqlval.specs.declared.fault.Fault.{Fault}
 use Rattle.catalog.specs.Database as database
 use Rattle.catalog.specs.Database.{AnIndex, Name, Object}
-use Rattle.catalog.specs.Listed.{as_index, is_name_of, key_columns, shared, table_named}
+use Rattle.catalog.specs.Listed.{Listed, as_index, is_name_of, key_columns, shared, table_named}
 use Rattle.catalog.specs.NewIndexes.{with_index}
 use Rattle.catalog.specs.declared.tables.Index.{Index}
 use Rattle.catalog.specs.declared.tables.IndexColumn.{IndexColumn}
@@ -168,17 +168,17 @@ module _ (t : Table) (row : SchemaRow) where
 -- ---- the table
 
 -- a name is taken in letters of either case
-taken_folded : (ts : List Table) (a b : Name) → folded a ≡ folded b → is_name_of ts a ≡ is_name_of ts b
-taken_folded ts a b same =
-    name_taken ts a ∙ (ap (λ (n : Name). list_any (λ (m : Name). bytes_eq n (folded m)) (names_told (all_told ts))) same ∙ sym (name_taken ts b))
+taken_folded : (l : Listed) (a b : Name) → folded a ≡ folded b → is_name_of l a ≡ is_name_of l b
+taken_folded l a b same =
+    name_taken l a ∙ (ap (λ (n : Name). list_any (λ (m : Name). bytes_eq n (folded m)) (names_told (all_told l))) same ∙ sym (name_taken l b))
 
-module _ (ts : List Table) (t : Table) (i : Index) (row : SchemaRow) (tells : TellsKeyIndex t i row) (can : CanGrow ts t i) where
+module _ (l : Listed) (t : Table) (i : Index) (row : SchemaRow) (tells : TellsKeyIndex t i row) (can : CanGrow l t i) where
   -- the row's table is listed, and its name is new
-  pub owner_there : table_named row.table_name.now ts ≡ Some can.other
-  owner_there = named_folded ts row.table_name.now t.name (is_folded t.name row.table_name.now tells.table_name_is) ∙ can.listed
+  pub owner_there : table_named row.table_name.now l.tables ≡ Some can.other
+  owner_there = named_folded l.tables row.table_name.now t.name (is_folded t.name row.table_name.now tells.table_name_is) ∙ can.listed
 
-  pub name_new : is_name_of ts row.name.now ≡ false
-  name_new = taken_folded ts row.name.now i.name (is_folded i.name row.name.now tells.name_is) ∙ can.fresh
+  pub name_new : is_name_of l row.name.now ≡ false
+  name_new = taken_folded l row.name.now i.name (is_folded i.name row.name.now tells.name_is) ∙ can.fresh
 
   -- what is so of the table is so of the listed one
   tells_other : TellsKeyIndex can.other i row
@@ -201,7 +201,7 @@ module _ (ts : List Table) (t : Table) (i : Index) (row : SchemaRow) (tells : Te
   at_owner owner same = subst (λ (u : Table). TellsKeyIndex u i row × IsDue u i × AreDueOnce u) (sym same) (tells_other, due_other, once_other)
 
   -- with the index it is grown
-  pub key_grown : (owner : Table) (found : Index) (result : Result Table Fault) → owner ≡ can.other → found ≡ i → IsOrMemory (λ copy. copy ≡ with_index found owner) result → IsOrMemory (IsGrown ts t i) result
+  pub key_grown : (owner : Table) (found : Index) (result : Result Table Fault) → owner ≡ can.other → found ≡ i → IsOrMemory (λ copy. copy ≡ with_index found owner) result → IsOrMemory (IsGrown l.tables t i) result
   key_grown owner found (Err f) same is by = by
   key_grown owner found (Ok grown) same is by = record {
     name = row.table_name.now;
@@ -211,17 +211,17 @@ module _ (ts : List Table) (t : Table) (i : Index) (row : SchemaRow) (tells : Te
     grown_is = by ∙ (ap (λ (x : Index). with_index x owner) is ∙ ap (with_index i) same);
   }
 
-pub key_grown_found : (ts : List Table) (row : SchemaRow) (owner : Table) (found : Index) (result : Result Table Fault) → table_named row.table_name.now ts ≡ Some owner → is_name_of ts row.name.now ≡ false
-    → (is_same_name owner.name row.table_name.now ≡ true → TellsKeyIndex owner found row × IsDue owner found) → IsOrMemory (λ copy. copy ≡ with_index found owner) result → IfOk result (GrowsBy ts row)
-key_grown_found ts row owner found (Err f) listed new told by = tt
-key_grown_found ts row owner found (Ok grown) listed new told by =
-    let both = told (named_so row.table_name.now ts owner listed) in record {
+pub key_grown_found : (l : Listed) (row : SchemaRow) (owner : Table) (found : Index) (result : Result Table Fault) → table_named row.table_name.now l.tables ≡ Some owner → is_name_of l row.name.now ≡ false
+    → (is_same_name owner.name row.table_name.now ≡ true → TellsKeyIndex owner found row × IsDue owner found) → IsOrMemory (λ copy. copy ≡ with_index found owner) result → IfOk result (GrowsBy l row)
+key_grown_found l row owner found (Err f) listed new told by = tt
+key_grown_found l row owner found (Ok grown) listed new told by =
+    let both = told (named_so row.table_name.now l.tables owner listed) in record {
       table = owner;
       index = found;
       tells = inr both.0;
       due = both.1;
       name = row.table_name.now;
       listed = listed;
-      fresh = taken_folded ts found.name row.name.now (sym (is_folded found.name row.name.now both.0.name_is)) ∙ new;
+      fresh = taken_folded l found.name row.name.now (sym (is_folded found.name row.name.now both.0.name_is)) ∙ new;
       grown_is = by;
     }

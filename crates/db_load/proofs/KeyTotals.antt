@@ -1,17 +1,69 @@
--- Tables that are alike have the indexes that their keys ask for, if one list of them has.
+-- Tables that are alike have the indexes that their keys ask for, if one list of them has. What is listed alike has alike tables.
 use Rattle.std.proofs.Common.{◌≡◌, ◌∙◌, ◌≤◌, ◌+◌, ◌&&◌, refl, sym, ap, ℕ, Bool, true, false, cond, List, [], ◌∷◌, ◌++◌, length, map, filter, arith}
 use Rattle.std.specs.List.{AllByRecursion, list_all}
+use Rattle.std.proofs.lemmas.List.{append-nil}
+use Rattle.catalog.specs.Listed.{Listed}
 use Rattle.catalog.specs.declared.tables.Index.{Index}
 use Rattle.catalog.specs.declared.tables.Table.{Table}
+use Rattle.catalog.specs.declared.tables.View.{View}
 use Rattle.db_pages.specs.Reordering.{AreReordered}
-use Rattle.db_pages.specs.Schema.{HasKeyIndexes, IndexTold, TableTold, Told, all_told, automatic_objects, due_objects}
+use Rattle.db_pages.specs.Schema.{HasKeyIndexes, IndexTold, TableTold, Told, ViewTold, all_told, automatic_objects, due_objects, tables_told}
 use Rattle.db_load.specs.Loading.{bare}
-use Rattle.db_load.specs.Reading.{AreAlike, IsDueTold, has_all_keys, parts_of}
-use Rattle.db_pages.proofs.Reordering.{all_reordered}
+use Rattle.db_load.specs.Reading.{AreAlike, IsDueTold, bare_told, has_all_keys, parts_of}
+use Rattle.db_pages.proofs.Reordering.{all_reordered, is_reordered, reordered_is}
 use Rattle.db_load.proofs.DueItems.{reordered_length}
-use Rattle.db_load.proofs.KeyIndexes.{AreAllDue, HasOwnNames, are_due, automatic_in, due_many, due_parts, is_number, objects_few, objects_many, own_names, parts_due}
+use Rattle.db_load.proofs.Items.{filter_append, reordered_filter}
+use Rattle.db_load.proofs.KeyIndexes.{AreAllDue, HasOwnNames, and_parts, are_due, automatic_in, due_many, due_parts, is_number, objects_few, objects_many, own_names, parts_due}
 use Rattle.db_load.proofs.ToldAdded.{index_parts, parts_more}
-use Rattle.db_load.proofs.ToldParts.{AreApart, apart_bare, apart_reordered, bare_apart}
+use Rattle.db_load.proofs.ToldParts.{AreApart, apart_bare, apart_first, apart_reordered, bare_apart, parts_are, table_parts}
+
+-- ---- tables that are alike
+
+-- it is a table or an index
+abbrev has_tree : Told → Bool
+has_tree (TableTold t) = true
+has_tree (IndexTold t i) = true
+has_tree (ViewTold v) = false
+
+bare_tree : (x : Told) → has_tree (bare_told x) ≡ has_tree x
+bare_tree (TableTold t) = refl
+bare_tree (IndexTold t i) = refl
+bare_tree (ViewTold v) = refl
+
+all_kept : (xs : List Told) → list_all has_tree xs ≡ true → filter has_tree (map bare_told xs) ≡ map bare_told xs
+all_kept [] all = refl
+all_kept (x ∷ xs) all =
+    let both = and_parts (has_tree x) (list_all has_tree xs) all in
+    ap (λ (b : Bool). cond b (bare_told x ∷ filter has_tree (map bare_told xs)) (filter has_tree (map bare_told xs))) (bare_tree x ∙ both.0) ∙ ap (λ ls. bare_told x ∷ ls) (all_kept xs both.1)
+
+indexes_kept : (t : Table) (is : List Index) (xs : List Told) → list_all has_tree xs ≡ true → list_all has_tree (map (λ (i : Index). IndexTold t i) is ++ xs) ≡ true
+indexes_kept t [] xs rest = rest
+indexes_kept t (i ∷ is) xs rest = indexes_kept t is xs rest
+
+tables_kept : (ts : List Table) → list_all has_tree (tables_told ts) ≡ true
+tables_kept [] = refl
+tables_kept (t ∷ ts) = indexes_kept t t.indexes (tables_told ts) (tables_kept ts)
+
+no_view : (vs : List View) → filter has_tree (map ViewTold vs) ≡ []
+no_view [] = refl
+no_view (v ∷ vs) = no_view vs
+
+with_trees : (l : Listed) → filter has_tree (parts_of l) ≡ table_parts l.tables
+with_trees l =
+    ap (filter has_tree) (parts_are l)
+    ∙ (filter_append has_tree (table_parts l.tables) (map ViewTold l.views)
+    ∙ (ap (λ ls. filter has_tree (table_parts l.tables) ++ ls) (no_view l.views)
+    ∙ (append-nil (filter has_tree (table_parts l.tables)) ∙ all_kept (tables_told l.tables) (tables_kept l.tables))))
+
+-- the same tables, in whatever order, each with the same indexes, in whatever order
+abbrev pub AreAlikeTables : List Table → List Table → Type 0
+AreAlikeTables tables others = AreReordered (table_parts tables) (table_parts others)
+
+-- what is listed alike has alike tables
+pub tables_alike : (l others : Listed) → AreAlike l others → AreAlikeTables l.tables others.tables
+tables_alike l others alike =
+    is_reordered (filter has_tree (parts_of l)) (table_parts l.tables) (table_parts others.tables) (with_trees l)
+    (reordered_is (filter has_tree (parts_of l)) (filter has_tree (parts_of others)) (table_parts others.tables) (with_trees others) (reordered_filter has_tree (parts_of l) (parts_of others) alike))
 
 -- ---- sums over what is told
 
@@ -34,10 +86,12 @@ total_reordered f (x ∷ xs) ys (c, d, is, rest) =
 abbrev autos : Told → ℕ
 autos (TableTold t) = 0
 autos (IndexTold t i) = cond i.is_automatic 1 0
+autos (ViewTold v) = 0
 
 abbrev keys : Told → ℕ
 keys (TableTold t) = length t.keys
 keys (IndexTold t i) = 0
+keys (ViewTold v) = 0
 
 autos_in : (t : Table) (is : List Index) → total autos (map (λ (i : Index). IndexTold (bare t) i) is) ≡ length (filter (λ (i : Index). i.is_automatic) is)
 autos_in t [] = refl
@@ -52,20 +106,20 @@ no_keys : (t : Table) (is : List Index) → total keys (map (λ (i : Index). Ind
 no_keys t [] = refl
 no_keys t (i ∷ is) = let rest = no_keys t is in omega (arith, rest)
 
-autos_more : (t : Table) (ts : List Table) → total autos (parts_of (t ∷ ts)) ≡ length (automatic_in t) + total autos (parts_of ts)
+autos_more : (t : Table) (ts : List Table) → total autos (table_parts (t ∷ ts)) ≡ length (automatic_in t) + total autos (table_parts ts)
 autos_more t ts =
-    let whole : total autos (parts_of (t ∷ ts)) ≡ 0 + total autos (index_parts t ++ parts_of ts) = ap (total autos) (parts_more t ts) in
-    let both = total_both autos (index_parts t) (parts_of ts) in
+    let whole : total autos (table_parts (t ∷ ts)) ≡ 0 + total autos (index_parts t ++ table_parts ts) = ap (total autos) (parts_more t ts) in
+    let both = total_both autos (index_parts t) (table_parts ts) in
     let mine = autos_in t t.indexes in omega (arith, whole, both, mine)
 
-keys_more : (t : Table) (ts : List Table) → total keys (parts_of (t ∷ ts)) ≡ length t.keys + total keys (parts_of ts)
+keys_more : (t : Table) (ts : List Table) → total keys (table_parts (t ∷ ts)) ≡ length t.keys + total keys (table_parts ts)
 keys_more t ts =
-    let whole : total keys (parts_of (t ∷ ts)) ≡ length t.keys + total keys (index_parts t ++ parts_of ts) = ap (total keys) (parts_more t ts) in
-    let both = total_both keys (index_parts t) (parts_of ts) in
+    let whole : total keys (table_parts (t ∷ ts)) ≡ length t.keys + total keys (index_parts t ++ table_parts ts) = ap (total keys) (parts_more t ts) in
+    let both = total_both keys (index_parts t) (table_parts ts) in
     let mine = no_keys t t.indexes in omega (arith, whole, both, mine)
 
 -- there are as many as keys
-as_many : (ts : List Table) → AllByRecursion HasKeyIndexes ts → total autos (parts_of ts) ≡ total keys (parts_of ts)
+as_many : (ts : List Table) → AllByRecursion HasKeyIndexes ts → total autos (table_parts ts) ≡ total keys (table_parts ts)
 as_many [] has = refl
 as_many (t ∷ ts) has =
     let here = reordered_length (automatic_objects t) (due_objects t) has.0 in
@@ -78,7 +132,7 @@ as_many (t ∷ ts) has =
 abbrev HasFew : Table → Type 0
 HasFew t = length (automatic_in t) ≤ length t.keys
 
-no_more : (ts : List Table) → AllByRecursion HasFew ts → total autos (parts_of ts) ≤ total keys (parts_of ts)
+no_more : (ts : List Table) → AllByRecursion HasFew ts → total autos (table_parts ts) ≤ total keys (table_parts ts)
 no_more [] few = omega arith
 no_more (t ∷ ts) few =
     let rest = no_more ts few.1 in
@@ -87,7 +141,7 @@ no_more (t ∷ ts) few =
     let k = keys_more t ts in omega (arith, rest, here, a, k)
 
 -- where none has more than keys, and all together as many, each has as many
-each_has : (ts : List Table) → AllByRecursion HasFew ts → total autos (parts_of ts) ≡ total keys (parts_of ts) → list_all has_all_keys ts ≡ true
+each_has : (ts : List Table) → AllByRecursion HasFew ts → total autos (table_parts ts) ≡ total keys (table_parts ts) → list_all has_all_keys ts ≡ true
 each_has [] few same = refl
 each_has (t ∷ ts) few same =
     let rest = no_more ts few.1 in
@@ -95,7 +149,7 @@ each_has (t ∷ ts) few same =
     let a = autos_more t ts in
     let k = keys_more t ts in
     let mine : length (automatic_in t) ≡ length t.keys = omega (arith, rest, here, a, k, same) in
-    let others : total autos (parts_of ts) ≡ total keys (parts_of ts) = omega (arith, rest, here, a, k, same) in
+    let others : total autos (table_parts ts) ≡ total keys (table_parts ts) = omega (arith, rest, here, a, k, same) in
     ap (λ b. b && list_all has_all_keys ts) (is_number (length (automatic_in t)) (length t.keys) mine) ∙ each_has ts few.1 others
 
 each_few : (ts : List Table) → AllByRecursion HasOwnNames ts → AreAllDue ts → AllByRecursion HasFew ts
@@ -106,14 +160,18 @@ all_due : (ts : List Table) → AllByRecursion HasKeyIndexes ts → AreAllDue ts
 all_due [] has = tt
 all_due (t ∷ ts) has = (are_due t has.0, all_due ts has.1)
 
--- tables that are alike have as many automatic indexes as keys, if each of the others has those that its keys ask for
-pub alike_keys : (tables others : List Table) → AreAlike tables others → AreApart (all_told tables) → AllByRecursion HasKeyIndexes tables → list_all has_all_keys others ≡ true
-alike_keys tables others alike apart has =
+tables_keys : (tables others : List Table) → AreAlikeTables tables others → AreApart (tables_told tables) → AllByRecursion HasKeyIndexes tables → list_all has_all_keys others ≡ true
+tables_keys tables others alike apart has =
     each_has others (each_few others (own_names others apart_too) due)
-    (sym (total_reordered autos (parts_of tables) (parts_of others) alike) ∙ (as_many tables has ∙ total_reordered keys (parts_of tables) (parts_of others) alike))
+    (sym (total_reordered autos (table_parts tables) (table_parts others) alike) ∙ (as_many tables has ∙ total_reordered keys (table_parts tables) (table_parts others) alike))
   where
-    apart_too : AreApart (all_told others)
-    apart_too = apart_bare (all_told others) (apart_reordered (parts_of tables) (parts_of others) alike (bare_apart (all_told tables) apart))
+    apart_too : AreApart (tables_told others)
+    apart_too = apart_bare (tables_told others) (apart_reordered (table_parts tables) (table_parts others) alike (bare_apart (tables_told tables) apart))
 
     due : AreAllDue others
-    due = due_parts others (all_reordered IsDueTold (parts_of tables) (parts_of others) alike (parts_due tables (all_due tables has)))
+    due = due_parts others (all_reordered IsDueTold (table_parts tables) (table_parts others) alike (parts_due tables (all_due tables has)))
+
+-- tables that are alike have as many automatic indexes as keys, if each of the others has those that its keys ask for
+pub alike_keys : (l others : Listed) → AreAlike l others → AreApart (all_told l) → AllByRecursion HasKeyIndexes l.tables → list_all has_all_keys others.tables ≡ true
+alike_keys l others alike apart has =
+    tables_keys l.tables others.tables (tables_alike l others alike) (apart_first (tables_told l.tables) (map ViewTold l.views) apart) has

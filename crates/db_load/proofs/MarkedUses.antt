@@ -8,9 +8,8 @@ use Rattle.sqlval.specs.Faults.{IsOutside}
 use Rattle.db_header.specs.declared.fields.Header.{Header}
 use Rattle.pages.specs.Counting.{occurs, fresh}
 use Rattle.pages.specs.Map.{PageMap}
-use Rattle.catalog.specs.Listed.{tables_of}
+use Rattle.catalog.specs.Listed.{Listed, listed_in}
 use Rattle.catalog.specs.declared.tables.Catalog.{Catalog}
-use Rattle.catalog.specs.declared.tables.Table.{Table}
 use Rattle.tree_check.specs.Marks.{mark_of, Marks, AreUnmarked}
 use Rattle.db_load.specs.Uses.{AreAllMarked, AreUses, HasAll, IsEachOnce, IsLoaded, LoadsAll, LoadsUses, Uses, pages_used}
 use Rattle.db_load.proofs.PagesThere.{none_of_uses}
@@ -58,21 +57,21 @@ module _ (map : PageMap) (old new : List Bool) (none : AreNone old) (long : leng
       let o = none n in let u = once n in let f = fresh_in (length map) n first (omega (arith, last, marks.long, long)) in let m = marks.marks n in omega (arith, o, u, f, m)
 
 pub all_refused : (map : PageMap) (size : ℕ) (header : Header) (fault : Fault) (result : Result Catalog Fault) → IsErrAnd result (λ e. e ≡ fault)
-    → ((tables : List Table) (uses : Uses) → AreUses map size header tables uses → IsEachOnce map (pages_used uses) → IsOutside fault) → LoadsAll map size header result
+    → ((l : Listed) (uses : Uses) → AreUses map size header l uses → IsEachOnce map (pages_used uses) → IsOutside fault) → LoadsAll map size header result
 all_refused map size header fault (Ok catalog) is why = absurd is
-all_refused map size header fault (Err e) is why = λ tables uses are once. subst IsOutside (sym is) (why tables uses are once)
+all_refused map size header fault (Err e) is why = λ l uses are once. subst IsOutside (sym is) (why l uses are once)
 
 module _ (map : PageMap) (size : ℕ) (header : Header) (old new : List Bool) (none : AreNone old) (long : length old ≡ suc (length map)) where
   -- the tables aren't loaded
   pub uses_not_loaded : (fault : Fault) (result : Result Catalog Fault) → IsErrAnd result (λ e. e ≡ fault) → LoadsUses map size header old new (Err fault) → LoadsAll map size header result
   uses_not_loaded fault result is loads =
-      all_refused map size header fault result is (λ tables uses are once. loads tables uses are (once_unmarked map old new none long (pages_used uses) once))
+      all_refused map size header fault result is (λ l uses are once. loads l uses are (once_unmarked map old new none long (pages_used uses) once))
 
   -- a page isn't marked
   pub marks_refused : (fault : Fault) (result : Result Catalog Fault) (catalog : Catalog) → IsErrAnd result (λ e. e ≡ fault) → IsLoaded map size header old new catalog → (AreAllMarked new → ⊥) → LoadsAll map size header result
   marks_refused fault result catalog is loaded missing =
       all_refused map size header fault result is
-      (λ tables uses are once. absurd (missing (all_marked map old new none long (pages_used uses) once (loaded.same tables uses are (once_unmarked map old new none long (pages_used uses) once)))))
+      (λ l uses are once. absurd (missing (all_marked map old new none long (pages_used uses) once (loaded.same l uses are (once_unmarked map old new none long (pages_used uses) once)))))
 
   -- each is
   pub all_loaded : (catalog : Catalog) → IsLoaded map size header old new catalog → AreAllMarked new → HasAll map size header catalog
@@ -81,5 +80,5 @@ module _ (map : PageMap) (size : ℕ) (header : Header) (old new : List Bool) (n
       record {
         uses = it;
         are = loaded.marked.is;
-        once = once_marked map old new none long (pages_used it) all loaded.marked.marks (none_of_uses map size header (tables_of catalog) it loaded.marked.is);
+        once = once_marked map old new none long (pages_used it) all loaded.marked.marks (none_of_uses map size header (listed_in catalog) it loaded.marked.is);
       }

@@ -16,6 +16,7 @@ use Rattle.sqlval.specs.declared.collation.Collation.{Collation}
 use Rattle.tree_index.specs.Entries.{Entry as IndexEntry}
 use Rattle.tree_index.specs.Tree as index
 use Rattle.db_layout.specs.Layout.{Content, HoldsUnder, IsTree, OfEntries, OfRows, Owner, used_by}
+use Rattle.catalog.specs.Listed.{Listed}
 use Rattle.catalog.specs.declared.tables.Table.{Table}
 use Rattle.tree_check.proofs.Parting.{occurs_append}
 use Rattle.db_load.specs.Uses.{AreUses, HasTrees, Uses, pages_held, pages_used}
@@ -113,7 +114,7 @@ none_of_held map size (t ∷ tables) (trees ∷ held) all =
     let first = none_of_trees map size trees all.0.lie in
     let rest = none_of_held map size tables held all.1 in omega (arith, both, first, rest)
 
-pub none_of_uses : (map : PageMap) (size : ℕ) (header : Header) (tables : List Table) (uses : Uses) → AreUses map size header tables uses → occurs 0 (pages_used uses) ≡ 0
-none_of_uses map size header tables uses are =
+pub none_of_uses : (map : PageMap) (size : ℕ) (header : Header) (l : Listed) (uses : Uses) → AreUses map size header l uses → occurs 0 (pages_used uses) ≡ 0
+none_of_uses map size header l uses are =
     none_both uses.schema_used (pages_held uses.held ++ freelist.pages_of uses.trunks) (none_of_table map size 1 uses.schema uses.schema_used are.tree)
-    (none_both (pages_held uses.held) (freelist.pages_of uses.trunks) (none_of_held map size tables uses.held are.each) (none_of_trunks map size uses.trunks are.listed.trunks_are))
+    (none_both (pages_held uses.held) (freelist.pages_of uses.trunks) (none_of_held map size l.tables uses.held are.each) (none_of_trunks map size uses.trunks are.listed.trunks_are))

@@ -1,4 +1,5 @@
--- The pass over the rows of tables, and that over the rows of indexes: what is listed where so many rows were read, of rows that tell tables.
+-- The pass over the rows of tables and views, and that over the rows of indexes: what is listed where so many rows were read, of rows that tell
+-- what is listed.
 use Rattle.std.proofs.Common.{◌≡◌, ◌∙◌, ◌⊎◌, inl, inr, refl, sym, ap, subst, ℕ, Bool, true, false, not, ◌||◌, cond, List, [], ◌∷◌, ◌++◌, map, filter, Some}
 use Rattle.std.specs.Prelude.{⊤}
 use Rattle.std.specs.List.{AllByRecursion, list_any}
@@ -9,42 +10,53 @@ use Rattle.tree_page.specs.Cells.{Pairwise}
 use Rattle.sqlval.specs.Lists.{any_twice}
 use Rattle.sqlval.specs.Names.{folded, is_same_name}
 use Rattle.catalog.specs.Database.{Name}
-use Rattle.catalog.specs.Listed.{is_name_of, is_table, table_named}
+use Rattle.catalog.specs.Listed.{Listed, is_name_of, is_table, table_named}
 use Rattle.catalog.specs.declared.tables.Index.{Index}
 use Rattle.catalog.specs.declared.tables.Table.{Table}
+use Rattle.catalog.specs.declared.tables.View.{View}
 use Rattle.db_pages.specs.Reordering.{AreReordered}
 use Rattle.query_names.specs.Bound.{is_twice_named}
-use Rattle.db_pages.specs.Schema.{AreRowsOf, IndexTold, TableTold, Tells, Told, all_told}
+use Rattle.db_pages.specs.Schema.{AreRowsOf, IndexTold, TableTold, Tells, Told, ViewTold, all_told, tables_told}
 use Rattle.db_load.specs.Loading.{bare}
 use Rattle.db_load.specs.Reading.{AddsOf, AddsTold, AreAlike, AreIndexed, AreSound, CanAdd, IsLoading, StandsIn, bare_told, is_of_pass, listed_by, name_told, parts_of}
 use Rattle.db_pages.proofs.Reordering.{all_reordered, is_reordered, reordered_all, reordered_both, reordered_front, reordered_is, reordered_map, reordered_parts, reordered_refl, reordered_sym, reordered_trans}
 use Rattle.db_load.proofs.Items.{all_among, all_both, all_front, among_apart, among_filter, among_first, among_map, among_middle, among_reordered, among_second, filter_middle, filter_none, filter_one, reordered_filter, to_front}
 use Rattle.db_load.proofs.KeyIndexes.{CanComeDue, told_due}
 use Rattle.db_load.proofs.ToldAdded.{index_parts, parts_more}
-use Rattle.db_load.proofs.ToldParts.{AreApart, HasOwnColumns, apart_bare, apart_more, apart_named, apart_reordered, bare_apart, bare_names, columns_bare, is_named, map_append, named_apart, names_told, neither, not_taken}
+use Rattle.db_load.proofs.ToldParts.{AreApart, HasOwnColumns, apart_bare, apart_first, apart_more, apart_named, apart_reordered, bare_apart, bare_names, columns_bare, is_named, map_append, named_apart, names_told, neither, none_first, not_taken, of_tables, parts_are, table_parts}
 
 -- ---- the table of an index is told too
 
 abbrev HasTable : List Told → Told → Type 0
 HasTable all (TableTold t) = ⊤
 HasTable all (IndexTold t i) = StandsIn (TableTold t) all
+HasTable all (ViewTold v) = ⊤
 
 indexes_have : (all : List Told) (t : Table) (is : List Index) → StandsIn (TableTold t) all → AllByRecursion (HasTable all) (map (λ (i : Index). IndexTold t i) is)
 indexes_have all t [] is_there = tt
 indexes_have all t (i ∷ is) is_there = (is_there, indexes_have all t is is_there)
 
-told_have : (all : List Told) (ts : List Table) → ((t : Table) → StandsIn (TableTold t) (all_told ts) → StandsIn (TableTold t) all) → AllByRecursion (HasTable all) (all_told ts)
+told_have : (all : List Told) (ts : List Table) → ((t : Table) → StandsIn (TableTold t) (tables_told ts) → StandsIn (TableTold t) all) → AllByRecursion (HasTable all) (tables_told ts)
 told_have all [] there = tt
 told_have all (t ∷ ts) there = (
   tt,
-  all_both (HasTable all) (map (λ (i : Index). IndexTold t i) t.indexes) (all_told ts) (indexes_have all t t.indexes (there t (inl refl)))
-      (told_have all ts (λ u is. there u (inr (among_second (TableTold u) (map (λ (i : Index). IndexTold t i) t.indexes) (all_told ts) is)))),
+  all_both (HasTable all) (map (λ (i : Index). IndexTold t i) t.indexes) (tables_told ts) (indexes_have all t t.indexes (there t (inl refl)))
+      (told_have all ts (λ u is. there u (inr (among_second (TableTold u) (map (λ (i : Index). IndexTold t i) t.indexes) (tables_told ts) is)))),
 )
 
-pub table_among : (tables : List Table) (told : List Told) (t : Table) (i : Index) → AreReordered told (all_told tables) → StandsIn (IndexTold t i) told → StandsIn (TableTold t) told
-table_among tables told t i h is =
+views_have : (all : List Told) (vs : List View) → AllByRecursion (HasTable all) (map ViewTold vs)
+views_have all [] = tt
+views_have all (v ∷ vs) = (tt, views_have all vs)
+
+listed_have : (all : List Told) (l : Listed) → ((t : Table) → StandsIn (TableTold t) (all_told l) → StandsIn (TableTold t) all) → AllByRecursion (HasTable all) (all_told l)
+listed_have all l there =
+    all_both (HasTable all) (tables_told l.tables) (map ViewTold l.views) (told_have all l.tables (λ t is. there t (among_first (TableTold t) (tables_told l.tables) (map ViewTold l.views) is)))
+    (views_have all l.views)
+
+pub table_among : (l : Listed) (told : List Told) (t : Table) (i : Index) → AreReordered told (all_told l) → StandsIn (IndexTold t i) told → StandsIn (TableTold t) told
+table_among l told t i h is =
     all_among (HasTable told) (IndexTold t i) told
-    (reordered_all (HasTable told) told (all_told tables) h (told_have told tables (λ u there. among_reordered (TableTold u) (all_told tables) told (reordered_sym told (all_told tables) h) there))) is
+    (reordered_all (HasTable told) told (all_told l) h (listed_have told l (λ u there. among_reordered (TableTold u) (all_told l) told (reordered_sym told (all_told l) h) there))) is
 
 -- ---- a listed table
 
@@ -75,19 +87,19 @@ pub record IsListed (tables : List Table) (b : Table) : Type 0 where
   pub alike : bare other ≡ b
 
 -- a table that is told beside items of other names is found under its name
-pub listed_table : (ts : List Table) (b : Table) → AreApart (parts_of ts) → StandsIn (TableTold b) (parts_of ts) → IsListed ts b
+listed_table : (ts : List Table) (b : Table) → AreApart (table_parts ts) → StandsIn (TableTold b) (table_parts ts) → IsListed ts b
 listed_table [] b apart is = absurd is
 listed_table (u ∷ us) b apart is =
-    by_test (is_table b.name u) refl (listed_table us b (apart_more (index_parts u) (parts_of us) both.1))
+    by_test (is_table b.name u) refl (listed_table us b (apart_more (index_parts u) (table_parts us) both.1))
     (subst (StandsIn (TableTold b)) (parts_more u us) is)
   where
     rest : List Told
-    rest = index_parts u ++ parts_of us
+    rest = index_parts u ++ table_parts us
 
-    both : (list_any (is_same_name u.name) (names_told (index_parts u ++ parts_of us)) ≡ false) × (any_twice is_same_name (names_told (index_parts u ++ parts_of us)) ≡ false)
+    both : (list_any (is_same_name u.name) (names_told (index_parts u ++ table_parts us)) ≡ false) × (any_twice is_same_name (names_told (index_parts u ++ table_parts us)) ≡ false)
     both = neither (list_any (is_same_name u.name) (names_told rest)) (any_twice is_same_name (names_told rest)) (subst AreApart (parts_more u us) apart)
 
-    by_test : (c : Bool) → is_table b.name u ≡ c → (StandsIn (TableTold b) (parts_of us) → IsListed us b) → (TableTold (bare u) ≡ TableTold b) ⊎ StandsIn (TableTold b) (index_parts u ++ parts_of us)
+    by_test : (c : Bool) → is_table b.name u ≡ c → (StandsIn (TableTold b) (table_parts us) → IsListed us b) → (TableTold (bare u) ≡ TableTold b) ⊎ StandsIn (TableTold b) (index_parts u ++ table_parts us)
         → IsListed (u ∷ us) b
     by_test true e later (inl same) = record {
       other = u;
@@ -99,11 +111,25 @@ listed_table (u ∷ us) b apart is =
         let at : u.name ≡ b.name = ap (λ (t : Table). t.name) (the_table (bare u) b same) in
         absurd (false≢true (sym e ∙ is_named u.name b.name (ap folded (sym at))))
     by_test false e later (inr is) =
-        let found = later (among_apart (TableTold b) (index_parts u) (parts_of us) (λ there. not_among_indexes b (bare u) u.indexes there) (λ there. there) is) in record {
+        let found = later (among_apart (TableTold b) (index_parts u) (table_parts us) (λ there. not_among_indexes b (bare u) u.indexes there) (λ there. there) is) in record {
           other = found.other;
           listed = ap (λ (c : Bool). cond c (Some u) (table_named b.name us)) e ∙ found.listed;
           alike = found.alike;
         }
+
+no_view : {B : Type 0} (b : Table) (v : View) → ViewTold v ≡ TableTold b → B
+no_view b v h = absurd cc
+
+not_among_views : {B : Type 0} (b : Table) (vs : List View) → StandsIn (TableTold b) (map ViewTold vs) → B
+not_among_views b [] is = absurd is
+not_among_views b (v ∷ vs) (inl same) = no_view b v same
+not_among_views b (v ∷ vs) (inr later) = not_among_views b vs later
+
+-- and so is one beside views
+pub table_listed : (l : Listed) (b : Table) → AreApart (parts_of l) → StandsIn (TableTold b) (parts_of l) → IsListed l.tables b
+table_listed l b apart is =
+    listed_table l.tables b (apart_first (table_parts l.tables) (map ViewTold l.views) (subst AreApart (parts_are l) apart))
+    (among_apart (TableTold b) (table_parts l.tables) (map ViewTold l.views) (λ there. there) (λ there. not_among_views b l.views there) (subst (StandsIn (TableTold b)) (parts_are l) is))
 
 -- ---- what is listed, and what isn't yet
 
@@ -111,6 +137,7 @@ listed_table (u ∷ us) b apart is =
 pub other_pass : (x : Told) → is_of_pass false x ≡ not (is_of_pass true x)
 other_pass (TableTold t) = refl
 other_pass (IndexTold t i) = refl
+other_pass (ViewTold v) = refl
 
 others_same : (xs : List Told) → filter (λ x. not (is_of_pass true x)) xs ≡ filter (is_of_pass false) xs
 others_same [] = refl
@@ -118,7 +145,7 @@ others_same (x ∷ xs) =
     ap (λ (b : Bool). cond b (x ∷ filter (λ x. not (is_of_pass true x)) xs) (filter (λ x. not (is_of_pass true x)) xs)) (sym (other_pass x))
     ∙ ap (λ (ls : List Told). cond (is_of_pass false x) (x ∷ ls) ls) (others_same xs)
 
--- the tables, and then the indexes
+-- the tables and views, and then the indexes
 pub passes_apart : (xs : List Told) → AreReordered xs (filter (is_of_pass true) xs ++ filter (is_of_pass false) xs)
 passes_apart xs =
     reordered_is xs (filter (is_of_pass true) xs ++ filter (λ x. not (is_of_pass true x)) xs) (filter (is_of_pass true) xs ++ filter (is_of_pass false) xs)
@@ -129,8 +156,8 @@ pub record IsParted (all listed : List Told) (x : Told) : Type 0 where
   pub others : List Told
   pub is : AreReordered all (x ∷ (listed ++ others))
 
-table_parted : (before rest : List Told) (t : Table) → IsParted (before ++ TableTold t ∷ rest) (listed_by true before (TableTold t ∷ rest)) (TableTold t)
-table_parted before rest t = record {
+first_parted : (before rest : List Told) (x : Told) → IsParted (before ++ x ∷ rest) (listed_by true before (x ∷ rest)) x
+first_parted before rest x = record {
   others = late ++ rest;
   is =
       reordered_trans (before ++ x ∷ rest) (x ∷ (before ++ rest)) (x ∷ (early ++ (late ++ rest))) (to_front before rest x)
@@ -139,9 +166,6 @@ table_parted before rest t = record {
       (reordered_both before (early ++ late) rest rest (passes_apart before) (reordered_refl rest))));
 }
   where
-    x : Told
-    x = TableTold t
-
     early : List Told
     early = filter (is_of_pass true) before
 
@@ -171,52 +195,51 @@ index_parted before rest t i = record {
     late = filter (is_of_pass false) before
 
 -- tables whose columns have different names, as items
-pub own_columns : (ts : List Table) → AllByRecursion (λ (t : Table). is_twice_named t.columns ≡ false) ts → AllByRecursion HasOwnColumns (all_told ts)
-own_columns [] all = tt
-own_columns (t ∷ ts) all = (all.0, all_both HasOwnColumns (map (λ (i : Index). IndexTold t i) t.indexes) (all_told ts) (for_indexes t.indexes) (own_columns ts all.1))
+pub own_columns : (l : Listed) → AllByRecursion (λ (t : Table). is_twice_named t.columns ≡ false) l.tables → AllByRecursion HasOwnColumns (all_told l)
+own_columns l all = all_both HasOwnColumns (tables_told l.tables) (map ViewTold l.views) (for_tables l.tables all) (for_views l.views)
   where
-    for_indexes : (is : List Index) → AllByRecursion HasOwnColumns (map (λ (i : Index). IndexTold t i) is)
-    for_indexes [] = tt
-    for_indexes (i ∷ is) = (tt, for_indexes is)
+    for_indexes : (t : Table) (is : List Index) → AllByRecursion HasOwnColumns (map (λ (i : Index). IndexTold t i) is)
+    for_indexes t [] = tt
+    for_indexes t (i ∷ is) = (tt, for_indexes t is)
+
+    for_tables : (ts : List Table) → AllByRecursion (λ (t : Table). is_twice_named t.columns ≡ false) ts → AllByRecursion HasOwnColumns (tables_told ts)
+    for_tables [] all = tt
+    for_tables (t ∷ ts) all = (all.0, all_both HasOwnColumns (map (λ (i : Index). IndexTold t i) t.indexes) (tables_told ts) (for_indexes t t.indexes) (for_tables ts all.1))
+
+    for_views : (vs : List View) → AllByRecursion HasOwnColumns (map ViewTold vs)
+    for_views [] = tt
+    for_views (v ∷ vs) = (tt, for_views vs)
 
 -- and the other way about
-pub columns_own : (ts : List Table) → AllByRecursion HasOwnColumns (parts_of ts) → AllByRecursion (λ (t : Table). is_twice_named t.columns ≡ false) ts
-columns_own [] all = tt
-columns_own (t ∷ ts) all = (all.0, columns_own ts (second (index_parts t) (parts_of ts) (subst (AllByRecursion HasOwnColumns) (parts_more t ts) all).1))
+pub columns_own : (l : Listed) → AllByRecursion HasOwnColumns (parts_of l) → AllByRecursion (λ (t : Table). is_twice_named t.columns ≡ false) l.tables
+columns_own l all = of_each l.tables (of_tables HasOwnColumns l all)
   where
     second : (xs ys : List Told) → AllByRecursion HasOwnColumns (xs ++ ys) → AllByRecursion HasOwnColumns ys
     second [] ys all = all
     second (x ∷ xs) ys all = second xs ys all.1
 
-module _ (tables now : List Table) (sound : AreSound tables) (all listed : List Told) (x : Told) (is : AreReordered all (all_told tables)) (parted : IsParted all listed x)
+    of_each : (ts : List Table) → AllByRecursion HasOwnColumns (table_parts ts) → AllByRecursion (λ (t : Table). is_twice_named t.columns ≡ false) ts
+    of_each [] all = tt
+    of_each (t ∷ ts) all = (all.0, of_each ts (second (index_parts t) (table_parts ts) (subst (AllByRecursion HasOwnColumns) (parts_more t ts) all).1))
+
+module _ (l now : Listed) (sound : AreSound l) (all listed : List Told) (x : Told) (is : AreReordered all (all_told l)) (parted : IsParted all listed x)
     (here : AreReordered (map bare_told listed) (parts_of now)) where
   apart_next : AreApart (x ∷ (listed ++ parted.others))
   apart_next =
-      apart_reordered all (x ∷ (listed ++ parted.others)) parted.is (apart_reordered (all_told tables) all (reordered_sym all (all_told tables) is) (named_apart tables sound.named))
+      apart_reordered all (x ∷ (listed ++ parted.others)) parted.is (apart_reordered (all_told l) all (reordered_sym all (all_told l) is) (named_apart l sound.named))
 
   columns_next : AllByRecursion HasOwnColumns (x ∷ (listed ++ parted.others))
   columns_next =
       all_reordered HasOwnColumns all (x ∷ (listed ++ parted.others)) parted.is
-      (reordered_all HasOwnColumns all (all_told tables) is (own_columns tables sound.columns))
+      (reordered_all HasOwnColumns all (all_told l) is (own_columns l sound.columns))
 
   name_next : list_any (is_same_name (name_told x)) (names_told (listed ++ parted.others)) ≡ false
   name_next = (neither (list_any (is_same_name (name_told x)) (names_told (listed ++ parted.others))) (any_twice is_same_name (names_told (listed ++ parted.others))) apart_next).0
 
-  any_front : (p : Name → Bool) (xs ys : List Told) → list_any p (names_told (xs ++ ys)) ≡ false → list_any p (names_told xs) ≡ false
-  any_front p [] ys h = refl
-  any_front p (y ∷ xs) ys h =
-      let both = neither (p (name_told y)) (list_any p (names_told (xs ++ ys))) h in ap (λ b. b || list_any p (names_told xs)) both.0 ∙ any_front p xs ys both.1
-
-  apart_front : (xs ys : List Told) → AreApart (xs ++ ys) → AreApart xs
-  apart_front [] ys h = refl
-  apart_front (y ∷ xs) ys h =
-      let both = neither (list_any (is_same_name (name_told y)) (names_told (xs ++ ys))) (any_twice is_same_name (names_told (xs ++ ys))) h in
-      ap (λ b. b || any_twice is_same_name (names_told xs)) (any_front (is_same_name (name_told y)) xs ys both.0) ∙ apart_front xs ys both.1
-
   pub parts_apart : AreApart (parts_of now)
   parts_apart =
       apart_reordered (map bare_told listed) (parts_of now) here
-      (bare_apart listed (apart_front listed parted.others (neither (list_any (is_same_name (name_told x)) (names_told (listed ++ parted.others))) (any_twice is_same_name (names_told (listed ++ parted.others))) apart_next).1))
+      (bare_apart listed (apart_first listed parted.others (neither (list_any (is_same_name (name_told x)) (names_told (listed ++ parted.others))) (any_twice is_same_name (names_told (listed ++ parted.others))) apart_next).1))
 
   -- what is listed is sound
   pub now_sound : AreSound now
@@ -229,42 +252,42 @@ module _ (tables now : List Table) (sound : AreSound tables) (all listed : List 
   pub next_fresh : is_name_of now (name_told x) ≡ false
   next_fresh =
       not_taken (map bare_told listed) now (name_told x) here
-      (ap (list_any (is_same_name (name_told x))) (bare_names listed) ∙ any_front (is_same_name (name_told x)) listed parted.others name_next)
+      (ap (list_any (is_same_name (name_told x))) (bare_names listed) ∙ none_first (is_same_name (name_told x)) listed parted.others name_next)
 
 -- ---- one row more
 
 -- what the next row tells can be added, and then what is told so far is listed
-pub record IsNextTold (first : Bool) (pages : ℕ) (tables : List Table) (row : Entry) (left : List Entry) (now : List Table) : Type 0 where
+pub record IsNextTold (first : Bool) (pages : ℕ) (l : Listed) (row : Entry) (left : List Entry) (now : Listed) : Type 0 where
   pub item : Told
   pub tells : Tells pages item row
   pub can : CanAdd first item now
-  pub goes_on : (new : List Table) → AddsOf first item now new → IsLoading first pages tables left new
+  pub goes_on : (new : Listed) → AddsOf first item now new → IsLoading first pages l left new
 
-module _ (first : Bool) (pages : ℕ) (tables : List Table) (before rest : List Told) (x : Told) (left : List Entry) (now : List Table) (all : AreReordered (before ++ x ∷ rest) (all_told tables))
+module _ (first : Bool) (pages : ℕ) (l : Listed) (before rest : List Told) (x : Told) (left : List Entry) (now : Listed) (all : AreReordered (before ++ x ∷ rest) (all_told l))
     (each : Pairwise (Tells pages) rest left) where
   grouped : (before ++ x ∷ []) ++ rest ≡ before ++ x ∷ rest
   grouped = append_assoc before (x ∷ []) rest
 
-  on_with : (new : List Table) → AreReordered (map bare_told (listed_by first (before ++ x ∷ []) rest)) (parts_of new) → IsLoading first pages tables left new
+  on_with : (new : Listed) → AreReordered (map bare_told (listed_by first (before ++ x ∷ []) rest)) (parts_of new) → IsLoading first pages l left new
   on_with new listed = record {
     before = before ++ x ∷ [];
     rest = rest;
-    all = is_reordered (before ++ x ∷ rest) ((before ++ x ∷ []) ++ rest) (all_told tables) (sym grouped) all;
+    all = is_reordered (before ++ x ∷ rest) ((before ++ x ∷ []) ++ rest) (all_told l) (sym grouped) all;
     each = each;
     listed = listed;
   }
 
   -- nothing is added
-  on_same : (new : List Table) → listed_by first (before ++ x ∷ []) rest ≡ listed_by first before (x ∷ rest) → AreReordered (map bare_told (listed_by first before (x ∷ rest))) (parts_of now) → new ≡ now
-      → IsLoading first pages tables left new
+  on_same : (new : Listed) → listed_by first (before ++ x ∷ []) rest ≡ listed_by first before (x ∷ rest) → AreReordered (map bare_told (listed_by first before (x ∷ rest))) (parts_of now) → new ≡ now
+      → IsLoading first pages l left new
   on_same new same listed is =
       on_with new
-      (subst (λ (us : List Table). AreReordered (map bare_told (listed_by first (before ++ x ∷ []) rest)) (parts_of us)) (sym is)
+      (subst (λ (us : Listed). AreReordered (map bare_told (listed_by first (before ++ x ∷ []) rest)) (parts_of us)) (sym is)
       (is_reordered (map bare_told (listed_by first before (x ∷ rest))) (map bare_told (listed_by first (before ++ x ∷ []) rest)) (parts_of now) (ap (map bare_told) (sym same)) listed))
 
   -- the item is
-  on_added : (new : List Table) → listed_by first (before ++ x ∷ []) rest ≡ listed_by first before (x ∷ rest) ++ x ∷ [] → AreReordered (map bare_told (listed_by first before (x ∷ rest))) (parts_of now)
-      → AddsTold x now new → IsLoading first pages tables left new
+  on_added : (new : Listed) → listed_by first (before ++ x ∷ []) rest ≡ listed_by first before (x ∷ rest) ++ x ∷ [] → AreReordered (map bare_told (listed_by first before (x ∷ rest))) (parts_of now)
+      → AddsTold x now new → IsLoading first pages l left new
   on_added new more listed adds =
       on_with new
       (is_reordered (map bare_told old ++ bare_told x ∷ []) (map bare_told (listed_by first (before ++ x ∷ []) rest)) (parts_of new)
@@ -278,79 +301,96 @@ module _ (first : Bool) (pages : ℕ) (tables : List Table) (before rest : List 
       old = listed_by first before (x ∷ rest)
 
 -- an index that is told can come to its table
-can_come : (tables : List Table) (told : List Told) → AreIndexed tables → (x : Told) → AreReordered told (all_told tables) → StandsIn x told → CanComeDue x
-can_come tables told indexed x all is =
-    all_among CanComeDue x told (reordered_all CanComeDue told (all_told tables) all (told_due tables (named_apart tables indexed.sound.named) indexed.keys)) is
+can_come : (l : Listed) (told : List Told) → AreIndexed l → (x : Told) → AreReordered told (all_told l) → StandsIn x told → CanComeDue x
+can_come l told indexed x all is =
+    all_among CanComeDue x told (reordered_all CanComeDue told (all_told l) all (told_due l (named_apart l indexed.sound.named) indexed.keys)) is
 
-next_told : (first : Bool) (pages : ℕ) (tables : List Table) (row : Entry) (left : List Entry) (now : List Table) (before rest : List Told) (x : Told) → AreIndexed tables
-    → AreReordered (before ++ x ∷ rest) (all_told tables) → Tells pages x row → Pairwise (Tells pages) rest left → AreReordered (map bare_told (listed_by first before (x ∷ rest))) (parts_of now)
-    → IsNextTold first pages tables row left now
-next_told true pages tables row left now before rest (TableTold t) indexed all tells each listed =
-    let parted = table_parted before rest t in record {
-      item = TableTold t;
+-- what the first pass lists
+first_told : (pages : ℕ) (l : Listed) (row : Entry) (left : List Entry) (now : Listed) (before rest : List Told) (x : Told) → is_of_pass true x ≡ true → AreIndexed l
+    → AreReordered (before ++ x ∷ rest) (all_told l) → Tells pages x row → Pairwise (Tells pages) rest left → AreReordered (map bare_told (listed_by true before (x ∷ rest))) (parts_of now)
+    → (AreSound now × (is_name_of now (name_told x) ≡ false) → CanAdd true x now) → ((new : Listed) → AddsOf true x now new → AddsTold x now new) → IsNextTold true pages l row left now
+first_told pages l row left now before rest x pass indexed all tells each listed can adds_it =
+    let parted = first_parted before rest x in record {
+      item = x;
       tells = tells;
-      can = (
-        now_sound tables now indexed.sound (before ++ TableTold t ∷ rest) (listed_by true before (TableTold t ∷ rest)) (TableTold t) all parted listed,
-        next_fresh tables now indexed.sound (before ++ TableTold t ∷ rest) (listed_by true before (TableTold t ∷ rest)) (TableTold t) all parted listed,
+      can = can (
+        now_sound l now indexed.sound (before ++ x ∷ rest) (listed_by true before (x ∷ rest)) x all parted listed,
+        next_fresh l now indexed.sound (before ++ x ∷ rest) (listed_by true before (x ∷ rest)) x all parted listed,
       );
-      goes_on = λ new adds. on_added true pages tables before rest (TableTold t) left now all each new (filter_one (is_of_pass true) before (TableTold t) refl) listed adds;
+      goes_on = λ new adds. on_added true pages l before rest x left now all each new (filter_one (is_of_pass true) before x pass) listed (adds_it new adds);
     }
-next_told true pages tables row left now before rest (IndexTold t i) indexed all tells each listed = record {
+
+-- where the second pass lists nothing more
+no_more : (before rest : List Told) (x : Told) → is_of_pass false x ≡ false → listed_by false (before ++ x ∷ []) rest ≡ listed_by false before (x ∷ rest)
+no_more before rest x pass =
+    ap (λ ls. filter (is_of_pass true) ls ++ filter (is_of_pass false) (before ++ x ∷ [])) (append_assoc before (x ∷ []) rest)
+    ∙ ap (λ ls. filter (is_of_pass true) (before ++ x ∷ rest) ++ ls) (filter_none (is_of_pass false) before x pass)
+
+next_told : (first : Bool) (pages : ℕ) (l : Listed) (row : Entry) (left : List Entry) (now : Listed) (before rest : List Told) (x : Told) → AreIndexed l
+    → AreReordered (before ++ x ∷ rest) (all_told l) → Tells pages x row → Pairwise (Tells pages) rest left → AreReordered (map bare_told (listed_by first before (x ∷ rest))) (parts_of now)
+    → IsNextTold first pages l row left now
+next_told true pages l row left now before rest (TableTold t) indexed all tells each listed = first_told pages l row left now before rest (TableTold t) refl indexed all tells each listed (λ both. both) (λ new adds. adds)
+next_told true pages l row left now before rest (IndexTold t i) indexed all tells each listed = record {
   item = IndexTold t i;
   tells = tells;
   can = tt;
-  goes_on = λ new same. on_same true pages tables before rest (IndexTold t i) left now all each new (filter_none (is_of_pass true) before (IndexTold t i) refl) listed same;
+  goes_on = λ new same. on_same true pages l before rest (IndexTold t i) left now all each new (filter_none (is_of_pass true) before (IndexTold t i) refl) listed same;
 }
-next_told false pages tables row left now before rest (TableTold t) indexed all tells each listed = record {
+next_told true pages l row left now before rest (ViewTold v) indexed all tells each listed = first_told pages l row left now before rest (ViewTold v) refl indexed all tells each listed (λ both. both) (λ new adds. adds)
+next_told false pages l row left now before rest (TableTold t) indexed all tells each listed = record {
   item = TableTold t;
   tells = tells;
   can = tt;
-  goes_on = λ new same. on_same false pages tables before rest (TableTold t) left now all each new
-      (ap (λ ls. filter (is_of_pass true) ls ++ filter (is_of_pass false) (before ++ TableTold t ∷ [])) (append_assoc before (TableTold t ∷ []) rest)
-      ∙ ap (λ ls. filter (is_of_pass true) (before ++ TableTold t ∷ rest) ++ ls) (filter_none (is_of_pass false) before (TableTold t) refl)) listed same;
+  goes_on = λ new same. on_same false pages l before rest (TableTold t) left now all each new (no_more before rest (TableTold t) refl) listed same;
 }
-next_told false pages tables row left now before rest (IndexTold t i) indexed all tells each listed =
+next_told false pages l row left now before rest (ViewTold v) indexed all tells each listed = record {
+  item = ViewTold v;
+  tells = tells;
+  can = tt;
+  goes_on = λ new same. on_same false pages l before rest (ViewTold v) left now all each new (no_more before rest (ViewTold v) refl) listed same;
+}
+next_told false pages l row left now before rest (IndexTold t i) indexed all tells each listed =
     let x : Told = IndexTold t i in
     let told : List Told = before ++ x ∷ rest in
     let old : List Told = listed_by false before (x ∷ rest) in
     let parted = index_parted before rest t i in
-    let can = can_come tables told indexed x all (among_middle x before rest) in
-    let owner = table_among tables told t i all (among_middle x before rest) in
+    let can = can_come l told indexed x all (among_middle x before rest) in
+    let owner = table_among l told t i all (among_middle x before rest) in
     let there = among_reordered (TableTold (bare t)) (map bare_told old) (parts_of now) listed
     (among_map bare_told (TableTold t) old (among_first (TableTold t) (filter (is_of_pass true) told) (filter (is_of_pass false) before) (among_filter (is_of_pass true) (TableTold t) told refl owner))) in
-    let found = listed_table now (bare t) (parts_apart tables now indexed.sound told old x all parted listed) there in
+    let found = table_listed now (bare t) (parts_apart l now indexed.sound told old x all parted listed) there in
     record {
       item = x;
       tells = tells;
       can = record {
-        sound = now_sound tables now indexed.sound told old x all parted listed;
-        fresh = next_fresh tables now indexed.sound told old x all parted listed;
+        sound = now_sound l now indexed.sound told old x all parted listed;
+        fresh = next_fresh l now indexed.sound told old x all parted listed;
         due = can.0;
         due_once = can.1;
         other = found.other;
         listed = found.listed;
         alike = found.alike;
       };
-      goes_on = λ new adds. on_added false pages tables before rest x left now all each new
+      goes_on = λ new adds. on_added false pages l before rest x left now all each new
           (ap (λ ls. filter (is_of_pass true) ls ++ filter (is_of_pass false) (before ++ x ∷ [])) (append_assoc before (x ∷ []) rest)
           ∙ (ap (λ ls. filter (is_of_pass true) told ++ ls) (filter_one (is_of_pass false) before x refl) ∙ sym (append_assoc (filter (is_of_pass true) told) (filter (is_of_pass false) before) (x ∷ [])))) listed adds;
     }
 
-pub row_comes : (first : Bool) (pages : ℕ) (tables : List Table) (row : Entry) (whole left : List Entry) (now : List Table) → AreIndexed tables → whole ≡ row ∷ left → IsLoading first pages tables whole now
-    → IsNextTold first pages tables row left now
-row_comes first pages tables row whole left now indexed is l =
-    by_rest l.rest l.all (subst (Pairwise (Tells pages) l.rest) is l.each) l.listed
+pub row_comes : (first : Bool) (pages : ℕ) (l : Listed) (row : Entry) (whole left : List Entry) (now : Listed) → AreIndexed l → whole ≡ row ∷ left → IsLoading first pages l whole now
+    → IsNextTold first pages l row left now
+row_comes first pages l row whole left now indexed is so_far =
+    by_rest so_far.rest so_far.all (subst (Pairwise (Tells pages) so_far.rest) is so_far.each) so_far.listed
   where
-    by_rest : (rest : List Told) → AreReordered (l.before ++ rest) (all_told tables) → Pairwise (Tells pages) rest (row ∷ left) → AreReordered (map bare_told (listed_by first l.before rest)) (parts_of now)
-        → IsNextTold first pages tables row left now
+    by_rest : (rest : List Told) → AreReordered (so_far.before ++ rest) (all_told l) → Pairwise (Tells pages) rest (row ∷ left) → AreReordered (map bare_told (listed_by first so_far.before rest)) (parts_of now)
+        → IsNextTold first pages l row left now
     by_rest [] all each listed = absurd each
-    by_rest (x ∷ rest) all each listed = next_told first pages tables row left now l.before rest x indexed all each.0 each.1 listed
+    by_rest (x ∷ rest) all each listed = next_told first pages l row left now so_far.before rest x indexed all each.0 each.1 listed
 
 -- ---- whole passes
 
 -- before the first pass
-pub first_begins : (pages : ℕ) (tables : List Table) (rows : List Entry) (now : List Table) → now ≡ [] → AreRowsOf pages tables rows → IsLoading true pages tables rows now
-first_begins pages tables rows now none tell = record {
+pub first_begins : (pages : ℕ) (l : Listed) (rows : List Entry) (now : Listed) → now ≡ record { tables = []; views = [] } → AreRowsOf pages l rows → IsLoading true pages l rows now
+first_begins pages l rows now none tell = record {
   before = [];
   rest = tell.told;
   all = tell.all;
@@ -363,34 +403,34 @@ no_rest pages [] each = refl
 no_rest pages (x ∷ rest) each = absurd each
 
 -- between the passes
-pub second_begins : (pages : ℕ) (tables : List Table) (rows : List Entry) (now : List Table) → AreRowsOf pages tables rows → IsLoading true pages tables [] now → IsLoading false pages tables rows now
-second_begins pages tables rows now tell l = record {
+pub second_begins : (pages : ℕ) (l : Listed) (rows : List Entry) (now : Listed) → AreRowsOf pages l rows → IsLoading true pages l [] now → IsLoading false pages l rows now
+second_begins pages l rows now tell so_far = record {
   before = [];
   rest = tell.told;
   all = tell.all;
   each = tell.each;
   listed =
-      reordered_trans (map bare_told (filter (is_of_pass true) tell.told ++ [])) (map bare_told (filter (is_of_pass true) l.before)) (parts_of now)
-      (reordered_map bare_told (filter (is_of_pass true) tell.told ++ []) (filter (is_of_pass true) l.before)
-      (is_reordered (filter (is_of_pass true) tell.told) (filter (is_of_pass true) tell.told ++ []) (filter (is_of_pass true) l.before) (sym (append-nil (filter (is_of_pass true) tell.told)))
-      (reordered_filter (is_of_pass true) tell.told l.before (reordered_trans tell.told (all_told tables) l.before tell.all (reordered_sym l.before (all_told tables) all)))))
-      l.listed;
+      reordered_trans (map bare_told (filter (is_of_pass true) tell.told ++ [])) (map bare_told (filter (is_of_pass true) so_far.before)) (parts_of now)
+      (reordered_map bare_told (filter (is_of_pass true) tell.told ++ []) (filter (is_of_pass true) so_far.before)
+      (is_reordered (filter (is_of_pass true) tell.told) (filter (is_of_pass true) tell.told ++ []) (filter (is_of_pass true) so_far.before) (sym (append-nil (filter (is_of_pass true) tell.told)))
+      (reordered_filter (is_of_pass true) tell.told so_far.before (reordered_trans tell.told (all_told l) so_far.before tell.all (reordered_sym so_far.before (all_told l) all)))))
+      so_far.listed;
 }
   where
-    all : AreReordered l.before (all_told tables)
-    all = is_reordered (l.before ++ l.rest) l.before (all_told tables) (ap (λ ls. l.before ++ ls) (no_rest pages l.rest l.each) ∙ append-nil l.before) l.all
+    all : AreReordered so_far.before (all_told l)
+    all = is_reordered (so_far.before ++ so_far.rest) so_far.before (all_told l) (ap (λ ls. so_far.before ++ ls) (no_rest pages so_far.rest so_far.each) ∙ append-nil so_far.before) so_far.all
 
 -- after the second
-pub all_listed : (pages : ℕ) (tables now : List Table) → IsLoading false pages tables [] now → AreAlike tables now
-all_listed pages tables now l =
-    reordered_trans (parts_of tables) (map bare_told l.before) (parts_of now) (reordered_map bare_told (all_told tables) l.before (reordered_sym l.before (all_told tables) all))
-    (reordered_trans (map bare_told l.before) (map bare_told (filter (is_of_pass true) l.before ++ filter (is_of_pass false) l.before)) (parts_of now)
-    (reordered_map bare_told l.before (filter (is_of_pass true) l.before ++ filter (is_of_pass false) l.before) (passes_apart l.before))
-    (is_reordered (map bare_told (listed_by false l.before l.rest)) (map bare_told (filter (is_of_pass true) l.before ++ filter (is_of_pass false) l.before)) (parts_of now)
-    (ap (λ ls. map bare_told (filter (is_of_pass true) ls ++ filter (is_of_pass false) l.before)) without) l.listed))
+pub all_listed : (pages : ℕ) (l now : Listed) → IsLoading false pages l [] now → AreAlike l now
+all_listed pages l now so_far =
+    reordered_trans (parts_of l) (map bare_told so_far.before) (parts_of now) (reordered_map bare_told (all_told l) so_far.before (reordered_sym so_far.before (all_told l) all))
+    (reordered_trans (map bare_told so_far.before) (map bare_told (filter (is_of_pass true) so_far.before ++ filter (is_of_pass false) so_far.before)) (parts_of now)
+    (reordered_map bare_told so_far.before (filter (is_of_pass true) so_far.before ++ filter (is_of_pass false) so_far.before) (passes_apart so_far.before))
+    (is_reordered (map bare_told (listed_by false so_far.before so_far.rest)) (map bare_told (filter (is_of_pass true) so_far.before ++ filter (is_of_pass false) so_far.before)) (parts_of now)
+    (ap (λ ls. map bare_told (filter (is_of_pass true) ls ++ filter (is_of_pass false) so_far.before)) without) so_far.listed))
   where
-    without : l.before ++ l.rest ≡ l.before
-    without = ap (λ ls. l.before ++ ls) (no_rest pages l.rest l.each) ∙ append-nil l.before
+    without : so_far.before ++ so_far.rest ≡ so_far.before
+    without = ap (λ ls. so_far.before ++ ls) (no_rest pages so_far.rest so_far.each) ∙ append-nil so_far.before
 
-    all : AreReordered l.before (all_told tables)
-    all = is_reordered (l.before ++ l.rest) l.before (all_told tables) without l.all
+    all : AreReordered so_far.before (all_told l)
+    all = is_reordered (so_far.before ++ so_far.rest) so_far.before (all_told l) without so_far.all

@@ -1,32 +1,35 @@
--- The pass over the rows of tables, and that over the rows of indexes: what was listed is what the rows tell.
-use Rattle.std.proofs.Common.{◌≡◌, ◌∙◌, ◌⊎◌, inl, inr, refl, sym, ap, subst, ℕ, Bool, true, false, not, List, [], ◌∷◌, ◌++◌, map, Option, Some, None, arith, codes}
+-- The pass over the rows of tables and views, and that over the rows of indexes: what was listed is what the rows tell.
+use Rattle.std.proofs.Common.{◌≡◌, ◌∙◌, ◌⊎◌, inl, inr, refl, sym, ap, subst, ℕ, Bool, true, false, not, List, [], ◌∷◌, ◌++◌, map, Option, Some, None, arith}
 use Rattle.std.specs.List.{AllByRecursion}
+use Rattle.std.proofs.lemmas.Bool.{false≢true}
 use Rattle.std.proofs.lemmas.List.{append-nil}
 use Rattle.tree_leaf.specs.Leaf.{Entry}
 use Rattle.tree_page.specs.Cells.{Pairwise}
-use Rattle.record.specs.Record.{DetermineValues, IsRecord}
+use Rattle.record.specs.Record.{DetermineValues}
 use Rattle.sqlval.specs.declared.value.Value.{Value}
 use Rattle.sqlval.specs.declared.value.Value.TheVariants.{Text}
-use Rattle.catalog.specs.Listed.{are_named_once}
-use Rattle.catalog.specs.declared.tables.Index.{Index}
+use Rattle.catalog.specs.Listed.{Listed, are_named_once}
 use Rattle.catalog.specs.declared.tables.Table.{Table}
 use Rattle.db_pages.specs.Reordering.{AreReordered}
 use Rattle.query_names.specs.Bound.{AreOnce, is_twice_named}
-use Rattle.db_pages.specs.Schema.{AreRowsOf, IndexTold, TableTold, Tells, Told, all_told}
+use Rattle.db_pages.specs.Schema.{AreRowsOf, IndexTold, TableTold, Tells, Told, ViewTold, all_told}
 use Rattle.db_load.specs.Loading.{kind_text}
-use Rattle.db_load.specs.Reading.{AreSound, Finds, FindsTold, IsDueTold, IsKind, bare_told, is_of_pass, parts_of}
+use Rattle.db_load.specs.declared.schema.SchemaKind.{SchemaKind}
+use Rattle.db_load.specs.declared.schema.SchemaKind.TheVariants as kind
+use Rattle.db_load.specs.Reading.{AreSound, Finds, FindsTold, IsDueTold, IsKind, bare_told, is_kind_first, is_of_pass, parts_of}
 use Rattle.db_pages.proofs.Reordering.{all_reordered, is_reordered, reordered_both, reordered_front, reordered_is, reordered_map, reordered_refl, reordered_swapped, reordered_trans}
 use Rattle.db_load.proofs.Items.{all_both}
-use Rattle.db_load.proofs.KeyIndexes.{AreAllDue, due_parts}
+use Rattle.db_load.proofs.KeyIndexes.{AreAllDue, due_listed}
 use Rattle.db_load.proofs.SchemaTables.{columns_differ}
 use Rattle.db_load.proofs.ToldParts.{HasOwnColumns, added_named, bare_columns, columns_bare, columns_once, map_append}
-use Rattle.db_load.proofs.RowPasses.{columns_own, own_columns}
+use Rattle.db_load.proofs.RowPasses.{columns_own, other_pass, own_columns}
 
 -- ---- columns
 
 pub told_columns : (pages : ℕ) (x : Told) (row : Entry) → Tells pages x row → HasOwnColumns x
 told_columns pages (TableTold t) row tells = columns_differ tells.definition.columns t.columns tells.makes.once tells.makes.columns
 told_columns pages (IndexTold t i) row tells = tt
+told_columns pages (ViewTold v) row tells = tt
 
 all_columns : (pages : ℕ) (told : List Told) (rows : List Entry) → Pairwise (Tells pages) told rows → AllByRecursion HasOwnColumns told
 all_columns pages [] rows each = tt
@@ -34,18 +37,18 @@ all_columns pages (x ∷ told) [] each = absurd each
 all_columns pages (x ∷ told) (row ∷ rows) each = (told_columns pages x row each.0, all_columns pages told rows each.1)
 
 -- the columns of tables that rows tell have different names
-pub rows_columns : (pages : ℕ) (tables : List Table) (rows : List Entry) → AreRowsOf pages tables rows → AllByRecursion (λ (t : Table). is_twice_named t.columns ≡ false) tables
-rows_columns pages tables rows tell =
-    columns_own tables
-    (columns_bare (all_told tables) (all_reordered HasOwnColumns tell.told (all_told tables) tell.all (all_columns pages tell.told rows tell.each)))
+pub rows_columns : (pages : ℕ) (l : Listed) (rows : List Entry) → AreRowsOf pages l rows → AllByRecursion (λ (t : Table). is_twice_named t.columns ≡ false) l.tables
+rows_columns pages l rows tell =
+    columns_own l
+    (columns_bare (all_told l) (all_reordered HasOwnColumns tell.told (all_told l) tell.all (all_columns pages tell.told rows tell.each)))
 
-pub rows_once : (pages : ℕ) (tables : List Table) (rows : List Entry) → AreRowsOf pages tables rows → AreOnce tables
-rows_once pages tables rows tell =
-    columns_once tables
-    (columns_bare (all_told tables) (all_reordered HasOwnColumns tell.told (all_told tables) tell.all (all_columns pages tell.told rows tell.each)))
+pub rows_once : (pages : ℕ) (l : Listed) (rows : List Entry) → AreRowsOf pages l rows → AreOnce l.tables
+rows_once pages l rows tell =
+    columns_once l
+    (columns_bare (all_told l) (all_reordered HasOwnColumns tell.told (all_told l) tell.all (all_columns pages tell.told rows tell.each)))
 
-pub sound_once : (tables : List Table) → AreSound tables → AreOnce tables
-sound_once tables sound = columns_once tables (columns_bare (all_told tables) (own_columns tables sound.columns))
+pub sound_once : (l : Listed) → AreSound l → AreOnce l.tables
+sound_once l sound = columns_once l (columns_bare (all_told l) (own_columns l sound.columns))
 
 -- ---- what is told, without the other indexes of its table
 
@@ -82,6 +85,7 @@ bare_tells pages (IndexTold t i) row (inl tells) = inl (record {
   row_is = tells.row_is;
 })
 bare_tells pages (IndexTold t i) row (inr tells) = inr (record { automatic = tells.automatic; rowid_is = tells.rowid_is; row_is = tells.row_is })
+bare_tells pages (ViewTold v) row tells = tells
 
 tells_bare : (pages : ℕ) (x : Told) (row : Entry) → Tells pages x row → Tells pages (bare_told x) row
 tells_bare pages (TableTold t) row tells = record {
@@ -116,6 +120,7 @@ tells_bare pages (IndexTold t i) row (inl tells) = inl (record {
   row_is = tells.row_is;
 })
 tells_bare pages (IndexTold t i) row (inr tells) = inr (record { automatic = tells.automatic; rowid_is = tells.rowid_is; row_is = tells.row_is })
+tells_bare pages (ViewTold v) row tells = tells
 
 all_bare : (pages : ℕ) (told : List Told) (rows : List Entry) → Pairwise (Tells pages) told rows → Pairwise (Tells pages) (map bare_told told) rows
 all_bare pages [] [] each = tt
@@ -191,11 +196,11 @@ lifted f (x ∷ xs) zs (c, d, is, rest) =
       are = ap (λ u. u ∷ map f more.items) cut.item_is ∙ ap (λ ls. x ∷ ls) more.are;
     }
 
--- rows that tell the parts of the tables tell the tables
-pub told_lifted : (pages : ℕ) (told : List Told) (tables : List Table) (rows : List Entry) → Pairwise (Tells pages) told rows → AreReordered (map bare_told told) (parts_of tables)
-    → AreRowsOf pages tables rows
-told_lifted pages told tables rows each all =
-    let it = lifted bare_told (map bare_told told) (all_told tables) all in record {
+-- rows that tell the parts of what is listed tell what is listed
+pub told_lifted : (pages : ℕ) (told : List Told) (l : Listed) (rows : List Entry) → Pairwise (Tells pages) told rows → AreReordered (map bare_told told) (parts_of l)
+    → AreRowsOf pages l rows
+told_lifted pages told l rows each all =
+    let it = lifted bare_told (map bare_told told) (all_told l) all in record {
       told = it.items;
       all = it.reordered;
       each = bare_all pages it.items rows (subst (λ (ls : List Told). Pairwise (Tells pages) ls rows) (sym it.are) (all_bare pages told rows each));
@@ -208,12 +213,12 @@ somes [] = []
 somes (None ∷ os) = somes os
 somes (Some x ∷ os) = x ∷ somes os
 
--- the row tells an item of the pass, or is of the other kind
+-- the row tells an item of the pass, or is of a kind of the other
 abbrev pub IsSaid : Bool → ℕ → Option Told → Entry → Type 0
 IsSaid first pages None row = IsKind (not first) row
 IsSaid first pages (Some x) row = (is_of_pass first x ≡ true) × Tells pages x row
 
-pub record HasFound (first : Bool) (pages : ℕ) (rows : List Entry) (old new : List Table) : Type 0 where
+pub record HasFound (first : Bool) (pages : ℕ) (rows : List Entry) (old new : Listed) : Type 0 where
   pub said : List (Option Told)
   pub each : Pairwise (IsSaid first pages) said rows
   pub due : AllByRecursion IsDueTold (somes said)
@@ -224,7 +229,7 @@ middle : {A : Type 0} (x : A) (c d e : List A) → AreReordered (x ∷ d) e → 
 middle x c d e h =
     reordered_trans (x ∷ (c ++ d)) (c ++ x ∷ d) (c ++ e) (c, d, refl, reordered_refl (c ++ d)) (reordered_both c c (x ∷ d) e (reordered_refl c) h)
 
-pub has_found : (first : Bool) (pages : ℕ) (rows : List Entry) (old new : List Table) → AreSound old → Finds first pages rows old new → HasFound first pages rows old new
+pub has_found : (first : Bool) (pages : ℕ) (rows : List Entry) (old new : Listed) → AreSound old → Finds first pages rows old new → HasFound first pages rows old new
 has_found first pages [] old new sound same = record {
   said = [];
   each = tt;
@@ -256,23 +261,40 @@ has_found first pages (row ∷ rows) old new sound (mid, finds, later) =
           said = None ∷ done.said;
           each = (kind, done.each);
           due = done.due;
-          more = subst (λ (us : List Table). AreReordered (map bare_told (somes done.said) ++ parts_of us) (parts_of new)) same done.more;
+          more = subst (λ (us : Listed). AreReordered (map bare_told (somes done.said) ++ parts_of us) (parts_of new)) same done.more;
           sound = done.sound;
         }
 
 -- ---- both passes
 
-not_both : {B : Type 0} (rest others : List Value) → Text (codes "table") ∷ rest ≡ Text (codes "index") ∷ others → B
-not_both rest others h = absurd (let e : 116 ≡ 105 = ap code_of h in omega (arith, e))
+not_both : {B : Type 0} (code other : ℕ) (cs ds : List ℕ) (rest others : List Value) → (code ≡ other → ⊥) → Text (code ∷ cs) ∷ rest ≡ Text (other ∷ ds) ∷ others → B
+not_both code other cs ds rest others differ h = absurd (differ (ap code_of h))
   where
     code_of : List Value → ℕ
     code_of (Text (c ∷ cs) ∷ vs) = c
     code_of vs = 0
 
--- the row of an index
-index_row : (pages : ℕ) (t : Table) (i : Index) (row : Entry) → Tells pages (IndexTold t i) row → (rest : List Value) × IsRecord row.payload (Text (codes "index") ∷ rest)
-index_row pages t i row (inl is) = (_, is.row_is.row_is)
-index_row pages t i row (inr is) = (_, is.row_is.row_is)
+flags : {B : Type 0} (b : Bool) → b ≡ true → b ≡ false → B
+flags b one other = absurd (false≢true (sym other ∙ one))
+
+-- no kind of the first pass is one of the other
+kinds_apart : {B : Type 0} (a b : SchemaKind) (rest others : List Value) → is_kind_first a ≡ true → is_kind_first b ≡ false → Text (kind_text a) ∷ rest ≡ Text (kind_text b) ∷ others → B
+kinds_apart kind.Table kind.Index rest others first second h = not_both 116 105 _ _ rest others (λ e. omega (arith, e)) h
+kinds_apart kind.View kind.Index rest others first second h = not_both 118 105 _ _ rest others (λ e. omega (arith, e)) h
+kinds_apart kind.Index b rest others first second h = flags false first refl
+kinds_apart a kind.Table rest others first second h = flags true refl second
+kinds_apart a kind.View rest others first second h = flags true refl second
+
+one_pass : {B : Type 0} → DetermineValues → (row : Entry) → IsKind true row → IsKind false row → B
+one_pass one row (a, first, rest, is) (b, second, others, also) =
+    kinds_apart a b rest others first second (one row.payload (Text (kind_text a) ∷ rest) (Text (kind_text b) ∷ others) is also)
+
+-- the kind of the row of what is told
+row_kind : (pages : ℕ) (x : Told) (row : Entry) → Tells pages x row → IsKind (is_of_pass true x) row
+row_kind pages (TableTold t) row is = (kind.Table, refl, _, is.row_is.row_is)
+row_kind pages (IndexTold t i) row (inl is) = (kind.Index, refl, _, is.row_is.row_is)
+row_kind pages (IndexTold t i) row (inr is) = (kind.Index, refl, _, is.row_is.row_is)
+row_kind pages (ViewTold v) row is = (kind.View, refl, _, is.row_is)
 
 pub record AreSaid (pages : ℕ) (first second : List Told) (rows : List Entry) : Type 0 where
   pub told : List Told
@@ -288,43 +310,44 @@ both_said one pages [] (y ∷ second) [] each also = absurd also
 both_said one pages [] (y ∷ second) (row ∷ rows) each also = absurd each
 both_said one pages (x ∷ first) second [] each also = absurd each
 both_said one pages (x ∷ first) [] (row ∷ rows) each also = absurd also
-both_said one pages (Some (TableTold t) ∷ first) (None ∷ second) (row ∷ rows) each also =
+both_said one pages (Some x ∷ first) (None ∷ second) (row ∷ rows) each also =
     let rest = both_said one pages first second rows each.1 also.1 in record {
-      told = TableTold t ∷ rest.told;
-      all = reordered_front (TableTold t) rest.told (somes first ++ somes second) rest.all;
+      told = x ∷ rest.told;
+      all = reordered_front x rest.told (somes first ++ somes second) rest.all;
       each = (each.0.1, rest.each);
     }
-both_said one pages (Some (IndexTold t i) ∷ first) (None ∷ second) (row ∷ rows) each also = absurd (let h = each.0.0 in cc)
-both_said one pages (None ∷ first) (Some (IndexTold t i) ∷ second) (row ∷ rows) each also =
+both_said one pages (None ∷ first) (Some y ∷ second) (row ∷ rows) each also =
     let rest = both_said one pages first second rows each.1 also.1 in record {
-      told = IndexTold t i ∷ rest.told;
+      told = y ∷ rest.told;
       all = (somes first, somes second, refl, rest.all);
       each = (also.0.1, rest.each);
     }
-both_said one pages (None ∷ first) (Some (TableTold t) ∷ second) (row ∷ rows) each also = absurd (let h = also.0.0 in cc)
-both_said one pages (None ∷ first) (None ∷ second) (row ∷ rows) each also =
-    not_both also.0.0 each.0.0 (one row.payload (Text (kind_text true) ∷ also.0.0) (Text (kind_text false) ∷ each.0.0) also.0.1 each.0.1)
-both_said one pages (Some (TableTold t) ∷ first) (Some (IndexTold u i) ∷ second) (row ∷ rows) each also =
-    let index = index_row pages u i row also.0.1 in not_both _ index.0 (one row.payload _ _ each.0.1.row_is.row_is index.1)
-both_said one pages (Some (TableTold t) ∷ first) (Some (TableTold u) ∷ second) (row ∷ rows) each also = absurd (let h = also.0.0 in cc)
-both_said one pages (Some (IndexTold t i) ∷ first) (Some y ∷ second) (row ∷ rows) each also = absurd (let h = each.0.0 in cc)
+both_said one pages (None ∷ first) (None ∷ second) (row ∷ rows) each also = one_pass one row also.0 each.0
+both_said one pages (Some x ∷ first) (Some y ∷ second) (row ∷ rows) each also =
+    one_pass one row (subst (λ (b : Bool). IsKind b row) each.0.0 (row_kind pages x row each.0.1))
+    (subst (λ (b : Bool). IsKind b row) (is_other (is_of_pass true y) (sym (other_pass y) ∙ also.0.0)) (row_kind pages y row also.0.1))
+  where
+    is_other : (b : Bool) → not b ≡ true → b ≡ false
+    is_other true h = absurd (false≢true h)
+    is_other false h = refl
 
-none_sound : AreSound []
+none_sound : AreSound (record { tables = []; views = [] })
 none_sound = record { columns = tt; named = refl }
 
 bare_due : (items : List Told) → AllByRecursion IsDueTold items → AllByRecursion IsDueTold (map bare_told items)
 bare_due [] all = tt
 bare_due (TableTold t ∷ items) all = (tt, bare_due items all.1)
 bare_due (IndexTold t i ∷ items) all = (all.0, bare_due items all.1)
+bare_due (ViewTold v ∷ items) all = (tt, bare_due items all.1)
 
 -- what a pass listed is such as keys ask for, where what was listed before is
-pub due_after : (first : Bool) (pages : ℕ) (rows : List Entry) (old new : List Table) → HasFound first pages rows old new → AllByRecursion IsDueTold (parts_of old) → AllByRecursion IsDueTold (parts_of new)
+pub due_after : (first : Bool) (pages : ℕ) (rows : List Entry) (old new : Listed) → HasFound first pages rows old new → AllByRecursion IsDueTold (parts_of old) → AllByRecursion IsDueTold (parts_of new)
 due_after first pages rows old new has before =
     all_reordered IsDueTold (map bare_told (somes has.said) ++ parts_of old) (parts_of new) has.more (all_both IsDueTold (map bare_told (somes has.said)) (parts_of old) (bare_due (somes has.said) has.due) before)
 
 -- what the passes listed is what the rows tell
-pub rows_tell : DetermineValues → (pages : ℕ) (rows : List Entry) (none mid new : List Table) → none ≡ [] → Finds true pages rows none mid → Finds false pages rows mid new
-    → AreRowsOf pages new rows × (are_named_once new ≡ true) × AreAllDue new
+pub rows_tell : DetermineValues → (pages : ℕ) (rows : List Entry) (none mid new : Listed) → none ≡ record { tables = []; views = [] } → Finds true pages rows none mid → Finds false pages rows mid new
+    → AreRowsOf pages new rows × (are_named_once new ≡ true) × AreAllDue new.tables
 rows_tell one pages rows none mid new empty finds finds_more =
     let first = has_found true pages rows none mid (subst AreSound (sym empty) none_sound) finds in
     let second = has_found false pages rows mid new first.sound finds_more in
@@ -339,5 +362,5 @@ rows_tell one pages rows none mid new empty finds finds_more =
           (reordered_trans (early ++ late) (late ++ early) (parts_of new) (reordered_swapped early late)
           (reordered_trans (late ++ early) (late ++ parts_of mid) (parts_of new) (reordered_both late late early (parts_of mid) (reordered_refl late) listed) second.more))),
       second.sound.named,
-      due_parts new (due_after false pages rows mid new second (due_after true pages rows none mid first (subst (λ (us : List Table). AllByRecursion IsDueTold (parts_of us)) (sym empty) tt))),
+      due_listed new (due_after false pages rows mid new second (due_after true pages rows none mid first (subst (λ (us : Listed). AllByRecursion IsDueTold (parts_of us)) (sym empty) tt))),
     )

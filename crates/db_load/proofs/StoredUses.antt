@@ -13,7 +13,7 @@ use Rattle.pages.specs.Map.{PageMap, AreWhole, Has, IsThere, page_at}
 use Rattle.freelist.specs.Freelist.{IsFreelist, pages_of}
 use Rattle.tree_store.proofs.Staying.{occurs_both}
 use Rattle.catalog.specs.Database.{Database}
-use Rattle.catalog.specs.Listed.{Lists, has_only_plain, tables_of}
+use Rattle.catalog.specs.Listed.{Listed, Lists, has_no_trigger, listed_in, tables_of}
 use Rattle.catalog.specs.Named.{IsNamed, ListedDatabase}
 use Rattle.catalog.specs.declared.tables.Catalog.{Catalog}
 use Rattle.catalog.specs.declared.tables.Table.{Table}
@@ -35,8 +35,8 @@ ok_is a b e = cc
 one_header : (page : List ℕ) (a b : Header) → IsHeader page a → IsHeader page b → a ≡ b
 one_header page a b is_a is_b = ok_is a b (sym (header_again page a is_a) ∙ header_again page b is_b)
 
-pub first_header : (map : PageMap) (size : ℕ) (tables : List Table) (db : Database) (held : Stores map size tables db) → IsCounted map → IsFirstHeader (page_at map 1) size (length map) held.header
-first_header map size tables db held counted = record {
+pub first_header : (map : PageMap) (size : ℕ) (l : Listed) (db : Database) (held : Stores map size l db) → IsCounted map → IsFirstHeader (page_at map 1) size (length map) held.header
+first_header map size l db held counted = record {
   header_is = held.header_is;
   sized = held.sized;
   counted = subst (λ (h : Header). MatchOption (counted_of h) (⊤) (λ count. count ≡ length map)) (one_header (page_at map 1) counted.header held.header counted.header_is held.header_is) counted.counted;
@@ -51,20 +51,20 @@ page_sized page size pages header is = subst IsPageSize is.sized is.header_is.se
 
 -- ---- what a database's pages are used for
 
-module _ (m : PageMap) (size : ℕ) (tables : List Table) (db : Database) (held : Stores m size tables db) where
+module _ (m : PageMap) (size : ℕ) (l : Listed) (db : Database) (held : Stores m size l db) where
   abbrev pub uses_in : Uses
   uses_in = record { schema = held.schema; schema_used = held.schema_used; held = held.held; trunks = held.shared.has.trunks }
 
-  are_uses : AreUses m size held.header tables uses_in
+  are_uses : AreUses m size held.header l uses_in
   are_uses =
       let has = held.shared.has in
       let same = one_header (page_at m 1) has.header held.header has.header_is held.header_is in
       record {
         tree = held.shared.trees.0;
         tell = held.tell;
-        once = held.of_tables.once;
+        once = held.of_listed.once;
         keys = held.keys;
-        each = trees_have m size held.rows_at tables held.held held.each held.shared.trees.1;
+        each = trees_have m size held.rows_at l.tables held.held held.each held.shared.trees.1;
         listed = subst (λ (h : Header). IsFreelist m size h.freelist_trunk h.freelist_count has.trunks) same has.listed;
       }
 
@@ -88,8 +88,8 @@ found_database listed m size header catalog whole first all = record {
   database = db.0;
   stored = record {
     rows_at = rows_at;
-    of_tables = record { lists = db.3; only = db.2; named = db.1; once = all.are.once };
-    once = rows_once (length m) tables all.uses.schema all.are.tell;
+    of_listed = record { lists = db.3; quiet = db.2; named = db.1; once = all.are.once };
+    once = rows_once (length m) (listed_in catalog) all.uses.schema all.are.tell;
     keys = all.are.keys;
     header = header;
     header_is = first.header_is;
@@ -119,8 +119,8 @@ found_database listed m size header catalog whole first all = record {
     rows_at : ℕ → List TableRow
     rows_at = rows_in m size (tables_of catalog) all.uses.held all.are.each
 
-    db : (db : Database) × IsNamed db × (has_only_plain db ≡ true) × Lists (rows_in m size (tables_of catalog) all.uses.held all.are.each) (tables_of catalog) db
-    db = listed (rows_in m size (tables_of catalog) all.uses.held all.are.each) (tables_of catalog)
+    db : (db : Database) × IsNamed db × (has_no_trigger db ≡ true) × Lists (rows_in m size (tables_of catalog) all.uses.held all.are.each) (listed_in catalog) db
+    db = listed (rows_in m size (tables_of catalog) all.uses.held all.are.each) (listed_in catalog)
 
     sum : (n : ℕ) → occurs n (pages_used all.uses) ≡ occurs n all.uses.schema_used + (occurs n (pages_held all.uses.held) + occurs n (pages_of all.uses.trunks))
     sum n =
@@ -129,12 +129,12 @@ found_database listed m size header catalog whole first all = record {
 
 -- ---- what loading answered
 
-module _ (m : PageMap) (size : ℕ) (tables : List Table) (db : Database) (held : Stores m size tables db) where
+module _ (m : PageMap) (size : ℕ) (l : Listed) (db : Database) (held : Stores m size l db) where
   -- pages that hold a database are refused for nothing else
   pub listed_by : (header : Header) (result : Result Catalog Fault) → header ≡ held.header → LoadsAll m size header result → IfErr result IsOutside
   listed_by header (Ok catalog) same all = tt
   listed_by header (Err fault) same why =
-      why tables (uses_in m size tables db held) (subst (λ (h : Header). AreUses m size h tables (uses_in m size tables db held)) (sym same) (are_uses m size tables db held)) (uses_once m size tables db held)
+      why l (uses_in m size l db held) (subst (λ (h : Header). AreUses m size h l (uses_in m size l db held)) (sym same) (are_uses m size l db held)) (uses_once m size l db held)
 
 -- where tables were loaded, the pages hold a database
 pub found_by : ListedDatabase → (m : PageMap) (size : ℕ) (header : Header) (result : Result Catalog Fault) → AreWhole size m → IsFirstHeader (page_at m 1) size (length m) header → LoadsAll m size header result

@@ -1,4 +1,4 @@
--- A table that comes after the others, and an index that comes to its table, are listed beside the others.
+-- A table and a view that come after the others, and an index that comes to its table, are listed beside the others.
 use Rattle.std.proofs.Common.{◌≡◌, ◌∙◌, refl, sym, ap, subst, Bool, true, false, ◌||◌, cond, List, [], ◌∷◌, ◌++◌, map, Option, Some}
 use Rattle.std.specs.Prelude.{flat_map}
 use Rattle.std.specs.List.{list_any}
@@ -7,16 +7,17 @@ use Rattle.std.proofs.lemmas.List.{append-nil, append_assoc}
 use Rattle.sqlval.specs.Lists.{any_twice}
 use Rattle.sqlval.specs.Names.{folded, is_same_name}
 use Rattle.catalog.specs.Database.{Name}
-use Rattle.catalog.specs.Listed.{are_named_once, is_name_of, is_table, names_of, table_named, with_replaced}
-use Rattle.catalog.specs.NewIndexes.{with_index}
+use Rattle.catalog.specs.Listed.{Listed, are_named_once, is_name_of, is_table, names_of, table_named, with_replaced}
+use Rattle.catalog.specs.NewIndexes.{replacing, with_index}
 use Rattle.catalog.specs.declared.tables.Index.{Index}
 use Rattle.catalog.specs.declared.tables.Table.{Table}
+use Rattle.catalog.specs.declared.tables.View.{View}
 use Rattle.db_pages.specs.Reordering.{AreReordered}
-use Rattle.db_pages.specs.Schema.{IndexTold, TableTold, Told, all_told}
+use Rattle.db_pages.specs.Schema.{IndexTold, TableTold, Told, ViewTold, all_told, tables_told}
 use Rattle.db_load.specs.Loading.{bare}
 use Rattle.db_load.specs.Reading.{AddsTold, IsGrown, bare_told, parts_of}
 use Rattle.db_pages.proofs.Reordering.{is_reordered, reordered_both, reordered_is, reordered_refl, reordered_trans}
-use Rattle.db_load.proofs.ToldParts.{is_folded, is_named, map_append, named_apart, names_told, neither, same_turned, told_names, reordered_twice}
+use Rattle.db_load.proofs.ToldParts.{is_folded, is_named, map_append, named_apart, names_told, neither, parts_are, same_turned, table_parts, told_names, reordered_twice}
 
 -- ---- parts
 
@@ -29,35 +30,74 @@ bare_indexes t [] = refl
 bare_indexes t (i ∷ is) = ap (λ ls. IndexTold (bare t) i ∷ ls) (bare_indexes t is)
 
 -- the parts of a table, and then those of the others
-pub parts_more : (t : Table) (ts : List Table) → parts_of (t ∷ ts) ≡ TableTold (bare t) ∷ (index_parts t ++ parts_of ts)
+pub parts_more : (t : Table) (ts : List Table) → table_parts (t ∷ ts) ≡ TableTold (bare t) ∷ (index_parts t ++ table_parts ts)
 parts_more t ts =
-    ap (λ ls. TableTold (bare t) ∷ ls) (map_append bare_told (map (λ (i : Index). IndexTold t i) t.indexes) (all_told ts) ∙ ap (λ ls. ls ++ parts_of ts) (bare_indexes t t.indexes))
+    ap (λ ls. TableTold (bare t) ∷ ls) (map_append bare_told (map (λ (i : Index). IndexTold t i) t.indexes) (tables_told ts) ∙ ap (λ ls. ls ++ table_parts ts) (bare_indexes t t.indexes))
 
-pub parts_both : (ts us : List Table) → parts_of (ts ++ us) ≡ parts_of ts ++ parts_of us
+pub parts_both : (ts us : List Table) → table_parts (ts ++ us) ≡ table_parts ts ++ table_parts us
 parts_both [] us = refl
 parts_both (t ∷ ts) us =
     parts_more t (ts ++ us)
     ∙ (ap (λ ls. TableTold (bare t) ∷ (index_parts t ++ ls)) (parts_both ts us)
-    ∙ (ap (λ ls. TableTold (bare t) ∷ ls) (sym (append_assoc (index_parts t) (parts_of ts) (parts_of us)))
-    ∙ ap (λ ls. ls ++ parts_of us) (sym (parts_more t ts))))
+    ∙ (ap (λ ls. TableTold (bare t) ∷ ls) (sym (append_assoc (index_parts t) (table_parts ts) (table_parts us)))
+    ∙ ap (λ ls. ls ++ table_parts us) (sym (parts_more t ts))))
+
+-- other tables are listed beside the same views
+with_tables : (x : Told) (old new : Listed) → new ≡ record old { tables = new.tables } → AreReordered (x ∷ table_parts old.tables) (table_parts new.tables) → AreReordered (x ∷ parts_of old) (parts_of new)
+with_tables x old new same h =
+    is_reordered (x ∷ (table_parts old.tables ++ views)) (x ∷ parts_of old) (parts_of new) (ap (λ ls. x ∷ ls) (sym (parts_are old)))
+    (reordered_is (x ∷ (table_parts old.tables ++ views)) (table_parts new.tables ++ views) (parts_of new)
+    (sym (parts_are new ∙ ap (λ (l : Listed). table_parts new.tables ++ map ViewTold l.views) same))
+    (reordered_both (x ∷ table_parts old.tables) (table_parts new.tables) views views h (reordered_refl views)))
+  where
+    views : List Told
+    views = map ViewTold old.views
 
 -- ---- a table
 
 last_first : {A : Type 0} (xs : List A) (x : A) → AreReordered (x ∷ xs) (xs ++ x ∷ [])
 last_first xs x = (xs, [], refl, reordered_is xs xs (xs ++ []) (sym (append-nil xs)) (reordered_refl xs))
 
-bare_alone : (t : Table) → t.indexes ≡ [] → parts_of (t ∷ []) ≡ TableTold (bare t) ∷ []
+bare_alone : (t : Table) → t.indexes ≡ [] → table_parts (t ∷ []) ≡ TableTold (bare t) ∷ []
 bare_alone t none = parts_more t [] ∙ ap (λ (is : List Index). TableTold (bare t) ∷ (map (λ (i : Index). IndexTold (bare t) i) is ++ [])) none
 
 -- a table without indexes is listed after the others
-pub table_adds : (t found : Table) (old new : List Table) → found.indexes ≡ [] → bare found ≡ bare t → is_name_of old t.name ≡ false → new ≡ old ++ found ∷ [] → AddsTold (TableTold t) old new
+pub table_adds : (t found : Table) (old new : Listed) → found.indexes ≡ [] → bare found ≡ bare t → is_name_of old t.name ≡ false → new ≡ record old { tables = old.tables ++ found ∷ [] }
+    → AddsTold (TableTold t) old new
 table_adds t found old new none alike fresh is = record {
   fresh = fresh;
-  more = reordered_is (TableTold (bare t) ∷ parts_of old) (parts_of old ++ TableTold (bare t) ∷ []) (parts_of new) there (last_first (parts_of old) (TableTold (bare t)));
+  more = with_tables (TableTold (bare t)) old new (is ∙ ap (λ (ts : List Table). record old { tables = ts }) (sym tables))
+      (reordered_is (TableTold (bare t) ∷ table_parts old.tables) (table_parts old.tables ++ TableTold (bare t) ∷ []) (table_parts new.tables) there (last_first (table_parts old.tables) (TableTold (bare t))));
 }
   where
-    there : parts_of old ++ TableTold (bare t) ∷ [] ≡ parts_of new
-    there = sym (ap parts_of is ∙ (parts_both old (found ∷ []) ∙ (ap (λ ls. parts_of old ++ ls) (bare_alone found none) ∙ ap (λ (u : Table). parts_of old ++ TableTold u ∷ []) alike)))
+    tables : new.tables ≡ old.tables ++ found ∷ []
+    tables = ap (λ (l : Listed). l.tables) is
+
+    there : table_parts old.tables ++ TableTold (bare t) ∷ [] ≡ table_parts new.tables
+    there =
+        sym (ap table_parts tables ∙ (parts_both old.tables (found ∷ []) ∙ (ap (λ ls. table_parts old.tables ++ ls) (bare_alone found none) ∙ ap (λ (u : Table). table_parts old.tables ++ TableTold u ∷ []) alike)))
+
+-- ---- a view
+
+-- a view is listed after the others
+pub view_adds : (v : View) (old new : Listed) → is_name_of old v.definition.name ≡ false → new ≡ record old { views = old.views ++ v ∷ [] } → AddsTold (ViewTold v) old new
+view_adds v old new fresh is = record {
+  fresh = fresh;
+  more = is_reordered (ViewTold v ∷ (tables ++ views)) (ViewTold v ∷ parts_of old) (parts_of new) (ap (λ ls. ViewTold v ∷ ls) (sym (parts_are old)))
+      (reordered_is (ViewTold v ∷ (tables ++ views)) ((tables ++ views) ++ ViewTold v ∷ []) (parts_of new) there (last_first (tables ++ views) (ViewTold v)));
+}
+  where
+    tables : List Told
+    tables = table_parts old.tables
+
+    views : List Told
+    views = map ViewTold old.views
+
+    there : (table_parts old.tables ++ map ViewTold old.views) ++ ViewTold v ∷ [] ≡ parts_of new
+    there =
+        append_assoc (table_parts old.tables) (map ViewTold old.views) (ViewTold v ∷ [])
+        ∙ sym (ap parts_of is
+        ∙ (parts_are (record old { views = old.views ++ v ∷ [] }) ∙ ap (λ ls. table_parts old.tables ++ ls) (map_append ViewTold old.views (v ∷ []))))
 
 -- ---- an index
 
@@ -75,10 +115,10 @@ once_first (x ∷ xs) ys h =
     let both = neither (list_any (is_same_name x) (xs ++ ys)) (any_twice is_same_name (xs ++ ys)) h in
     ap (λ b. b || any_twice is_same_name xs) (any_first (is_same_name x) xs ys both.0) ∙ once_first xs ys both.1
 
-tables_once : (ts : List Table) → are_named_once ts ≡ true → any_twice is_same_name (names_alone ts) ≡ false
-tables_once ts once =
-    once_first (names_alone ts) (flat_map (λ (t : Table). map (λ (i : Index). i.name) t.indexes) ts)
-    (sym (reordered_twice (names_told (all_told ts)) (names_of ts) (told_names ts)) ∙ named_apart ts once)
+tables_once : (l : Listed) → are_named_once l ≡ true → any_twice is_same_name (names_alone l.tables) ≡ false
+tables_once l once =
+    once_first (names_alone l.tables) (map (λ (v : View). v.definition.name) l.views ++ flat_map (λ (t : Table). map (λ (i : Index). i.name) t.indexes) l.tables)
+    (sym (reordered_twice (names_told (all_told l)) (names_of l) (told_names l)) ∙ named_apart l once)
 
 -- a name is the same in letters of either case
 pub named_folded : (ts : List Table) (a b : Name) → folded a ≡ folded b → table_named a ts ≡ table_named b ts
@@ -114,11 +154,11 @@ none_replaced new (t ∷ ts) none =
     let both = neither (is_same_name new.name t.name) (list_any (is_same_name new.name) (names_alone ts)) none in
     ap (λ b. cond b new t ∷ with_replaced new ts) (same_turned t.name new.name ∙ both.0) ∙ ap (λ ls. t ∷ ls) (none_replaced new ts both.1)
 
-grown_first : (u : Table) (i : Index) (ts : List Table) → AreReordered (IndexTold (bare u) i ∷ parts_of (u ∷ ts)) (parts_of (with_index i u ∷ ts))
+grown_first : (u : Table) (i : Index) (ts : List Table) → AreReordered (IndexTold (bare u) i ∷ table_parts (u ∷ ts)) (table_parts (with_index i u ∷ ts))
 grown_first u i ts =
-    is_reordered (x ∷ TableTold (bare u) ∷ (mine ++ parts_of ts)) (x ∷ parts_of (u ∷ ts)) (parts_of (with_index i u ∷ ts)) (ap (λ ls. x ∷ ls) (sym (parts_more u ts)))
-    (reordered_is (x ∷ TableTold (bare u) ∷ (mine ++ parts_of ts)) (TableTold (bare u) ∷ (mine ++ x ∷ parts_of ts)) (parts_of (with_index i u ∷ ts)) there
-    (TableTold (bare u) ∷ mine, parts_of ts, refl, reordered_refl (TableTold (bare u) ∷ (mine ++ parts_of ts))))
+    is_reordered (x ∷ TableTold (bare u) ∷ (mine ++ table_parts ts)) (x ∷ table_parts (u ∷ ts)) (table_parts (with_index i u ∷ ts)) (ap (λ ls. x ∷ ls) (sym (parts_more u ts)))
+    (reordered_is (x ∷ TableTold (bare u) ∷ (mine ++ table_parts ts)) (TableTold (bare u) ∷ (mine ++ x ∷ table_parts ts)) (table_parts (with_index i u ∷ ts)) there
+    (TableTold (bare u) ∷ mine, table_parts ts, refl, reordered_refl (TableTold (bare u) ∷ (mine ++ table_parts ts))))
   where
     x : Told
     x = IndexTold (bare u) i
@@ -126,31 +166,31 @@ grown_first u i ts =
     mine : List Told
     mine = index_parts u
 
-    there : TableTold (bare u) ∷ (mine ++ x ∷ parts_of ts) ≡ parts_of (with_index i u ∷ ts)
+    there : TableTold (bare u) ∷ (mine ++ x ∷ table_parts ts) ≡ table_parts (with_index i u ∷ ts)
     there =
         sym (parts_more (with_index i u) ts
-        ∙ (ap (λ ls. TableTold (bare u) ∷ (ls ++ parts_of ts)) (map_append (λ (j : Index). IndexTold (bare u) j) u.indexes (i ∷ []))
-        ∙ ap (λ ls. TableTold (bare u) ∷ ls) (append_assoc mine (x ∷ []) (parts_of ts))))
+        ∙ (ap (λ ls. TableTold (bare u) ∷ (ls ++ table_parts ts)) (map_append (λ (j : Index). IndexTold (bare u) j) u.indexes (i ∷ []))
+        ∙ ap (λ ls. TableTold (bare u) ∷ ls) (append_assoc mine (x ∷ []) (table_parts ts))))
 
 pub grown_parts : (n : Name) (i : Index) (ts : List Table) (u : Table) → any_twice is_same_name (names_alone ts) ≡ false → table_named n ts ≡ Some u
-    → AreReordered (IndexTold (bare u) i ∷ parts_of ts) (parts_of (with_replaced (with_index i u) ts))
+    → AreReordered (IndexTold (bare u) i ∷ table_parts ts) (table_parts (with_replaced (with_index i u) ts))
 grown_parts n i [] u once found = absurd cc
 grown_parts n i (t ∷ ts) u once found =
     let both = neither (list_any (is_same_name t.name) (names_alone ts)) (any_twice is_same_name (names_alone ts)) once in
     by_test (grown_parts n i ts u both.1) both.0 (is_table n t) found
   where
-    by_test : (table_named n ts ≡ Some u → AreReordered (IndexTold (bare u) i ∷ parts_of ts) (parts_of (with_replaced (with_index i u) ts)))
+    by_test : (table_named n ts ≡ Some u → AreReordered (IndexTold (bare u) i ∷ table_parts ts) (table_parts (with_replaced (with_index i u) ts)))
         → list_any (is_same_name t.name) (names_alone ts) ≡ false → (b : Bool) → cond b (Some t) (table_named n ts) ≡ Some u
-        → AreReordered (IndexTold (bare u) i ∷ parts_of (t ∷ ts)) (parts_of (with_replaced (with_index i u) (t ∷ ts)))
+        → AreReordered (IndexTold (bare u) i ∷ table_parts (t ∷ ts)) (table_parts (with_replaced (with_index i u) (t ∷ ts)))
     by_test later none true is =
         let same : t ≡ u = cc in
-        subst (λ (v : Table). AreReordered (IndexTold (bare v) i ∷ parts_of (t ∷ ts)) (parts_of (with_replaced (with_index i v) (t ∷ ts)))) same
-        (reordered_is (IndexTold (bare t) i ∷ parts_of (t ∷ ts)) (parts_of (with_index i t ∷ ts)) (parts_of (with_replaced (with_index i t) (t ∷ ts)))
-        (ap parts_of (sym (ap (λ b. cond b (with_index i t) t ∷ with_replaced (with_index i t) ts) (itself t.name) ∙ ap (λ ls. with_index i t ∷ ls) (none_replaced (with_index i t) ts none))))
+        subst (λ (v : Table). AreReordered (IndexTold (bare v) i ∷ table_parts (t ∷ ts)) (table_parts (with_replaced (with_index i v) (t ∷ ts)))) same
+        (reordered_is (IndexTold (bare t) i ∷ table_parts (t ∷ ts)) (table_parts (with_index i t ∷ ts)) (table_parts (with_replaced (with_index i t) (t ∷ ts)))
+        (ap table_parts (sym (ap (λ b. cond b (with_index i t) t ∷ with_replaced (with_index i t) ts) (itself t.name) ∙ ap (λ ls. with_index i t ∷ ls) (none_replaced (with_index i t) ts none))))
         (grown_first t i ts))
     by_test later none false is =
         let here : with_replaced (with_index i u) (t ∷ ts) ≡ t ∷ with_replaced (with_index i u) ts = ap (λ b. cond b (with_index i u) t ∷ with_replaced (with_index i u) ts) (other_found t.name n ts u none is) in
-        reordered_is (IndexTold (bare u) i ∷ parts_of (t ∷ ts)) (parts_of (t ∷ with_replaced (with_index i u) ts)) (parts_of (with_replaced (with_index i u) (t ∷ ts))) (ap parts_of (sym here))
+        reordered_is (IndexTold (bare u) i ∷ table_parts (t ∷ ts)) (table_parts (t ∷ with_replaced (with_index i u) ts)) (table_parts (with_replaced (with_index i u) (t ∷ ts))) (ap table_parts (sym here))
         (behind (later is))
       where
         x : Told
@@ -159,21 +199,26 @@ grown_parts n i (t ∷ ts) u once found =
         front : List Told
         front = TableTold (bare t) ∷ index_parts t
 
-        behind : AreReordered (IndexTold (bare u) i ∷ parts_of ts) (parts_of (with_replaced (with_index i u) ts))
-            → AreReordered (IndexTold (bare u) i ∷ parts_of (t ∷ ts)) (parts_of (t ∷ with_replaced (with_index i u) ts))
+        behind : AreReordered (IndexTold (bare u) i ∷ table_parts ts) (table_parts (with_replaced (with_index i u) ts))
+            → AreReordered (IndexTold (bare u) i ∷ table_parts (t ∷ ts)) (table_parts (t ∷ with_replaced (with_index i u) ts))
         behind rest =
-            is_reordered (x ∷ (front ++ parts_of ts)) (x ∷ parts_of (t ∷ ts)) (parts_of (t ∷ with_replaced (with_index i u) ts)) (ap (λ ls. x ∷ ls) (sym (parts_more t ts)))
-            (reordered_is (x ∷ (front ++ parts_of ts)) (front ++ parts_of (with_replaced (with_index i u) ts)) (parts_of (t ∷ with_replaced (with_index i u) ts)) (sym (parts_more t (with_replaced (with_index i u) ts)))
-            (reordered_trans (x ∷ (front ++ parts_of ts)) (front ++ x ∷ parts_of ts) (front ++ parts_of (with_replaced (with_index i u) ts))
-            (front, parts_of ts, refl, reordered_refl (front ++ parts_of ts))
-            (reordered_both front front (x ∷ parts_of ts) (parts_of (with_replaced (with_index i u) ts)) (reordered_refl front) rest)))
+            is_reordered (x ∷ (front ++ table_parts ts)) (x ∷ table_parts (t ∷ ts)) (table_parts (t ∷ with_replaced (with_index i u) ts)) (ap (λ ls. x ∷ ls) (sym (parts_more t ts)))
+            (reordered_is (x ∷ (front ++ table_parts ts)) (front ++ table_parts (with_replaced (with_index i u) ts)) (table_parts (t ∷ with_replaced (with_index i u) ts)) (sym (parts_more t (with_replaced (with_index i u) ts)))
+            (reordered_trans (x ∷ (front ++ table_parts ts)) (front ++ x ∷ table_parts ts) (front ++ table_parts (with_replaced (with_index i u) ts))
+            (front, table_parts ts, refl, reordered_refl (front ++ table_parts ts))
+            (reordered_both front front (x ∷ table_parts ts) (table_parts (with_replaced (with_index i u) ts)) (reordered_refl front) rest)))
 
 -- an index of a new name is listed with its table
-pub index_adds : (t : Table) (i : Index) (grown : Table) (old new : List Table) → are_named_once old ≡ true → is_name_of old i.name ≡ false → IsGrown old t i grown
-    → new ≡ with_replaced grown old → AddsTold (IndexTold t i) old new
+pub index_adds : (t : Table) (i : Index) (grown : Table) (old new : Listed) → are_named_once old ≡ true → is_name_of old i.name ≡ false → IsGrown old.tables t i grown
+    → new ≡ replacing grown old → AddsTold (IndexTold t i) old new
 index_adds t i grown old new once fresh is by = record {
   fresh = fresh;
-  more =
-      reordered_is (IndexTold (bare t) i ∷ parts_of old) (parts_of (with_replaced (with_index i is.other) old)) (parts_of new) (ap parts_of (sym (by ∙ ap (λ (u : Table). with_replaced u old) is.grown_is)))
-      (subst (λ (u : Table). AreReordered (IndexTold u i ∷ parts_of old) (parts_of (with_replaced (with_index i is.other) old))) is.alike (grown_parts is.name i old is.other (tables_once old once) is.listed));
+  more = with_tables (IndexTold (bare t) i) old new (by ∙ ap (λ (ts : List Table). record old { tables = ts }) (sym tables))
+      (reordered_is (IndexTold (bare t) i ∷ table_parts old.tables) (table_parts (with_replaced (with_index i is.other) old.tables)) (table_parts new.tables)
+      (ap table_parts (sym (tables ∙ ap (λ (u : Table). with_replaced u old.tables) is.grown_is)))
+      (subst (λ (u : Table). AreReordered (IndexTold u i ∷ table_parts old.tables) (table_parts (with_replaced (with_index i is.other) old.tables))) is.alike
+      (grown_parts is.name i old.tables is.other (tables_once old once) is.listed)));
 }
+  where
+    tables : new.tables ≡ with_replaced grown old.tables
+    tables = ap (λ (l : Listed). l.tables) by

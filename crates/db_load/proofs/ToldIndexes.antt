@@ -10,8 +10,8 @@ use Rattle.sqlval.specs.declared.fault.Fault.{Fault}
 use Rattle.sqlval.specs.declared.fault.Fault.TheVariants as fault
 use Rattle.sql_syntax.specs.declared.create.IndexDefinition.{IndexDefinition}
 use Rattle.catalog.specs.Database.{Name}
-use Rattle.catalog.specs.Listed.{is_name_of, is_table, table_named, with_replaced}
-use Rattle.catalog.specs.NewIndexes.{with_index}
+use Rattle.catalog.specs.Listed.{Listed, is_name_of, is_table, table_named}
+use Rattle.catalog.specs.NewIndexes.{replacing, with_index}
 use Rattle.catalog.specs.declared.tables.Index.{Index}
 use Rattle.catalog.specs.declared.tables.IndexColumn.{IndexColumn}
 use Rattle.catalog.specs.declared.tables.Table.{Table}
@@ -21,6 +21,7 @@ use Rattle.sql_syntax.specs.declared.create.NewObject.TheVariants as new
 use Rattle.db_pages.specs.Schema.{CreatesSupported, IndexTold, IsIndexOf}
 use Rattle.db_load.specs.Loading.{IsOfIndexRow, TellsIndex, bare, text_of}
 use Rattle.db_load.specs.Reading.{AddsTold, AreSound, CanGrow, FindsParts, GrowsBy, IsGrown}
+use Rattle.db_load.specs.declared.schema.SchemaKind.TheVariants as kind
 use Rattle.db_load.specs.declared.schema.SchemaRow.{SchemaRow}
 use Rattle.db_load.proofs.KeyColumns.{key_is}
 use Rattle.db_load.proofs.ToldAdded.{index_adds, named_folded}
@@ -46,21 +47,21 @@ some_is t u h = cc
 none_is : {B : Type 0} (t : Table) → Some t ≡ None → B
 none_is t h = absurd cc
 
-pub table_there : (ts : List Table) (t : Table) (i : Index) (d : IndexDefinition) (can : CanGrow ts t i) → IsIndexOf d t i → table_named d.table ts ≡ Some can.other
-table_there ts t i d can is = named_folded ts d.table t.name is.on ∙ can.listed
+pub table_there : (l : Listed) (t : Table) (i : Index) (d : IndexDefinition) (can : CanGrow l t i) → IsIndexOf d t i → table_named d.table l.tables ≡ Some can.other
+table_there l t i d can is = named_folded l.tables d.table t.name is.on ∙ can.listed
 
 -- nothing is in the way of an index that can be listed
-pub not_refused : (ts : List Table) (t : Table) (i : Index) (d : IndexDefinition) (f : Fault) (can : CanGrow ts t i) → IsIndexOf d t i → (f ≡ fault.Memory) ⊎ IsIndexRefusal ts d (refusal_of f)
+pub not_refused : (l : Listed) (t : Table) (i : Index) (d : IndexDefinition) (f : Fault) (can : CanGrow l t i) → IsIndexOf d t i → (f ≡ fault.Memory) ⊎ IsIndexRefusal l d (refusal_of f)
     → f ≡ fault.Memory
-not_refused ts t i d f can is (inl memory) = memory
-not_refused ts t i d f can is (inr (inl reserved)) = absurd (false≢true (sym is.free ∙ reserved.1))
-not_refused ts t i d f can is (inr (inr (inl taken))) = absurd (false≢true (sym can.fresh ∙ (ap (is_name_of ts) is.name_is ∙ taken.1)))
-not_refused ts t i d f can is (inr (inr (inr (inl doubled)))) = absurd (false≢true (sym is.once ∙ doubled.1))
-not_refused ts t i d f can is (inr (inr (inr (inr (inl none))))) = none_is can.other (sym (table_there ts t i d can is) ∙ none.1)
-not_refused ts t i d f can is (inr (inr (inr (inr (inr (u, named, has)))))) = nothing (subst (λ (rs : List Refusal). Contains rs (refusal_of f)) none has)
+not_refused l t i d f can is (inl memory) = memory
+not_refused l t i d f can is (inr (inl reserved)) = absurd (false≢true (sym is.free ∙ reserved.1))
+not_refused l t i d f can is (inr (inr (inl taken))) = absurd (false≢true (sym can.fresh ∙ (ap (is_name_of l) is.name_is ∙ taken.1)))
+not_refused l t i d f can is (inr (inr (inr (inl doubled)))) = absurd (false≢true (sym is.once ∙ doubled.1))
+not_refused l t i d f can is (inr (inr (inr (inr (inl none))))) = none_is can.other (sym (table_there l t i d can is) ∙ none.1)
+not_refused l t i d f can is (inr (inr (inr (inr (inr (u, named, has)))))) = nothing (subst (λ (rs : List Refusal). Contains rs (refusal_of f)) none has)
   where
     same : bare u ≡ bare t
-    same = ap bare (some_is u can.other (sym named ∙ table_there ts t i d can is)) ∙ can.alike
+    same = ap bare (some_is u can.other (sym named ∙ table_there l t i d can is)) ∙ can.alike
 
     none : faults (keys_known u d) ≡ []
     none = ap faults (keys_bare u t d same ∙ is.columns)
@@ -71,9 +72,9 @@ not_refused ts t i d f can is (inr (inr (inr (inr (inr (u, named, has)))))) = no
 -- ---- the index
 
 -- the index of a row is the one that the row tells
-pub is_grown : (ts : List Table) (t u : Table) (i found : Index) (row : SchemaRow) (d : IndexDefinition) (grown : Table) (can : CanGrow ts t i) (tells : TellsIndex t i row) → d ≡ tells.definition
-    → IsIndexOn ts d u found.columns → found.name ≡ d.name → found.is_unique ≡ d.is_unique → found.is_automatic ≡ false → found.root ≡ row.root → found.rowid ≡ row.rowid → grown ≡ with_index found u → IsGrown ts t i grown
-is_grown ts t u i found row d grown can tells same on name unique automatic root rowid by = record {
+pub is_grown : (l : Listed) (t u : Table) (i found : Index) (row : SchemaRow) (d : IndexDefinition) (grown : Table) (can : CanGrow l t i) (tells : TellsIndex t i row) → d ≡ tells.definition
+    → IsIndexOn l d u found.columns → found.name ≡ d.name → found.is_unique ≡ d.is_unique → found.is_automatic ≡ false → found.root ≡ row.root → found.rowid ≡ row.rowid → grown ≡ with_index found u → IsGrown l.tables t i grown
+is_grown l t u i found row d grown can tells same on name unique automatic root rowid by = record {
   name = d.table;
   other = u;
   listed = on.on;
@@ -85,7 +86,7 @@ is_grown ts t u i found row d grown can tells same on name unique automatic root
     makes = subst (λ (x : IndexDefinition). IsIndexOf x t i) (sym same) tells.makes
 
     alike : bare u ≡ bare t
-    alike = ap bare (some_is u can.other (sym on.on ∙ table_there ts t i d can makes)) ∙ can.alike
+    alike = ap bare (some_is u can.other (sym on.on ∙ table_there l t i d can makes)) ∙ can.alike
 
     index_is : found ≡ i
     index_is =
@@ -106,12 +107,12 @@ named_so n (u ∷ us) t found = by_test (named_so n us t) (is_table n u) refl fo
     by_test later true e is = subst (λ (x : Table). is_same_name x.name n ≡ true) (some_is u t is) e
     by_test later false e is = later is
 
-pub makes_index : (ts : List Table) (t : Table) (i : Index) (d : IndexDefinition) → IsIndexOn ts d t i.columns → i.name ≡ d.name → i.is_unique ≡ d.is_unique → i.is_automatic ≡ false → IsIndexOf d t i
-makes_index ts t i d on name unique automatic = record {
+pub makes_index : (l : Listed) (t : Table) (i : Index) (d : IndexDefinition) → IsIndexOn l d t i.columns → i.name ≡ d.name → i.is_unique ≡ d.is_unique → i.is_automatic ≡ false → IsIndexOf d t i
+makes_index l t i d on name unique automatic = record {
   free = on.free;
   once = on.once;
   name_is = name;
-  on = is_folded t.name d.table (named_so d.table ts t on.on);
+  on = is_folded t.name d.table (named_so d.table l.tables t on.on);
   unique = unique;
   written = automatic;
   columns = on.known;
@@ -120,39 +121,39 @@ makes_index ts t i d on name unique automatic = record {
 -- ---- the catalog
 
 -- the index of a row is listed with its table
-pub index_listed : {Y : Type 0} (t : Table) (i : Index) (grown : Table) (old new : List Table) (result : Result Y Fault) → CanGrow old t i → IsGrown old t i grown
-    → OnOk result (new ≡ with_replaced grown old) → IfErr result (λ f. f ≡ fault.Memory) → MatchResult result (λ done. AddsTold (IndexTold t i) old new) (λ f. f ≡ fault.Memory)
+pub index_listed : {Y : Type 0} (t : Table) (i : Index) (grown : Table) (old new : Listed) (result : Result Y Fault) → CanGrow old t i → IsGrown old.tables t i grown
+    → OnOk result (new ≡ replacing grown old) → IfErr result (λ f. f ≡ fault.Memory) → MatchResult result (λ done. AddsTold (IndexTold t i) old new) (λ f. f ≡ fault.Memory)
 index_listed t i grown old new (Ok y) can is by refused = index_adds t i grown old new can.sound.named can.fresh is by
 index_listed t i grown old new (Err f) can is by refused = refused
 
 -- and the row tells it
-pub index_found : (row : SchemaRow) (grown : Table) (old new : List Table) → row.is_table ≡ false → AreSound old → GrowsBy old row grown → new ≡ with_replaced grown old → FindsParts false row old new
-index_found row grown old new kind sound by now = record {
+pub index_found : (row : SchemaRow) (grown : Table) (old new : Listed) → row.kind ≡ kind.Index → AreSound old → GrowsBy old row grown → new ≡ replacing grown old → FindsParts false row old new
+index_found row grown old new its_kind sound by now = record {
   item = IndexTold by.table by.index;
   pass = refl;
-  tells = (kind, by.tells);
+  tells = (its_kind, by.tells);
   due = by.due;
   adds = index_adds by.table by.index grown old new sound.named by.fresh (record { name = by.name; other = by.table; listed = by.listed; alike = refl; grown_is = by.grown_is }) now;
 }
 
 -- ---- a copy
 
-pub grown_as_told : (ts : List Table) (t u : Table) (i found : Index) (row : SchemaRow) (d : IndexDefinition) (result : Result Table Fault) (can : CanGrow ts t i) (tells : TellsIndex t i row) → d ≡ tells.definition
-    → IsIndexOn ts d u found.columns → found.name ≡ d.name → found.is_unique ≡ d.is_unique → found.is_automatic ≡ false → found.root ≡ row.root → found.rowid ≡ row.rowid → IsOrMemory (λ copy. copy ≡ with_index found u) result
-    → IsOrMemory (IsGrown ts t i) result
-grown_as_told ts t u i found row d (Ok grown) can tells same on name unique automatic root rowid by = is_grown ts t u i found row d grown can tells same on name unique automatic root rowid by
-grown_as_told ts t u i found row d (Err f) can tells same on name unique automatic root rowid by = by
+pub grown_as_told : (l : Listed) (t u : Table) (i found : Index) (row : SchemaRow) (d : IndexDefinition) (result : Result Table Fault) (can : CanGrow l t i) (tells : TellsIndex t i row) → d ≡ tells.definition
+    → IsIndexOn l d u found.columns → found.name ≡ d.name → found.is_unique ≡ d.is_unique → found.is_automatic ≡ false → found.root ≡ row.root → found.rowid ≡ row.rowid → IsOrMemory (λ copy. copy ≡ with_index found u) result
+    → IsOrMemory (IsGrown l.tables t i) result
+grown_as_told l t u i found row d (Ok grown) can tells same on name unique automatic root rowid by = is_grown l t u i found row d grown can tells same on name unique automatic root rowid by
+grown_as_told l t u i found row d (Err f) can tells same on name unique automatic root rowid by = by
 
-pub grown_found : (ts : List Table) (u : Table) (found : Index) (row : SchemaRow) (d : IndexDefinition) (result : Result Table Fault) (text : List ℕ) → text_of row ≡ Some text → CreatesSupported text (new.Index d) → IsOfIndexRow row d
-    → IsIndexOn ts d u found.columns → found.name ≡ d.name → found.is_unique ≡ d.is_unique → found.is_automatic ≡ false → found.root ≡ row.root → found.rowid ≡ row.rowid → IsOrMemory (λ copy. copy ≡ with_index found u) result → IfOk result (GrowsBy ts row)
-grown_found ts u found row d (Err f) text text_is creates names on name unique automatic root rowid by = tt
-grown_found ts u found row d (Ok grown) text text_is creates names on name unique automatic root rowid by = record {
+pub grown_found : (l : Listed) (u : Table) (found : Index) (row : SchemaRow) (d : IndexDefinition) (result : Result Table Fault) (text : List ℕ) → text_of row ≡ Some text → CreatesSupported text (new.Index d) → IsOfIndexRow row d
+    → IsIndexOn l d u found.columns → found.name ≡ d.name → found.is_unique ≡ d.is_unique → found.is_automatic ≡ false → found.root ≡ row.root → found.rowid ≡ row.rowid → IsOrMemory (λ copy. copy ≡ with_index found u) result → IfOk result (GrowsBy l row)
+grown_found l u found row d (Err f) text text_is creates names on name unique automatic root rowid by = tt
+grown_found l u found row d (Ok grown) text text_is creates names on name unique automatic root rowid by = record {
   table = u;
   index = found;
-  tells = inl (record { text = text; text_is = text_is; definition = d; creates = creates; names = names; makes = makes_index ts u found d on name unique automatic; root_is = root; rowid_is = rowid });
+  tells = inl (record { text = text; text_is = text_is; definition = d; creates = creates; names = names; makes = makes_index l u found d on name unique automatic; root_is = root; rowid_is = rowid });
   due = λ is. absurd (false≢true (sym automatic ∙ is));
   name = d.table;
   listed = on.on;
-  fresh = subst (λ (n : Name). is_name_of ts n ≡ false) (sym name) on.new;
+  fresh = subst (λ (n : Name). is_name_of l n ≡ false) (sym name) on.new;
   grown_is = by;
 }

@@ -1,4 +1,4 @@
--- What is listed, as parts in any order: the tables, each without its indexes, and the indexes.
+-- What is listed, as parts in any order: the tables, each without its indexes, the indexes, and the views.
 use Rattle.std.proofs.Common.{◌≡◌, ◌∙◌, refl, sym, ap, subst, ℕ, Bool, true, false, not, ◌||◌, cond, List, [], ◌∷◌, ◌++◌, map, Some}
 use Rattle.std.specs.Prelude.{⊤, flat_map}
 use Rattle.std.specs.List.{AllByRecursion, find, list_any}
@@ -8,12 +8,13 @@ use Rattle.std.proofs.lemmas.Slice.Eq.{bytes_eq-Decides}
 use Rattle.sqlval.specs.Lists.{any_twice}
 use Rattle.sqlval.specs.Names.{folded, is_same_name}
 use Rattle.catalog.specs.Database.{Name}
-use Rattle.catalog.specs.Listed.{are_named_once, has_index, is_name_of, is_table, names_of}
+use Rattle.catalog.specs.Listed.{Listed, are_named_once, has_index, has_table_name, is_name_of, is_table, is_view, names_of}
 use Rattle.catalog.specs.declared.tables.Index.{Index}
 use Rattle.catalog.specs.declared.tables.Table.{Table}
+use Rattle.catalog.specs.declared.tables.View.{View}
 use Rattle.db_pages.specs.Reordering.{AreReordered}
 use Rattle.query_names.specs.Bound.{AreOnce, is_twice_named}
-use Rattle.db_pages.specs.Schema.{IndexTold, TableTold, Told, all_told}
+use Rattle.db_pages.specs.Schema.{IndexTold, TableTold, Told, ViewTold, all_told, tables_told}
 use Rattle.db_load.specs.Reading.{AddsTold, bare_told, name_told, parts_of}
 use Rattle.db_pages.proofs.Reordering.{is_reordered, reordered_any, reordered_both, reordered_front, reordered_is, reordered_map, reordered_refl, reordered_swapped, reordered_trans}
 
@@ -62,6 +63,7 @@ names_told items = map name_told items
 pub bare_name : (item : Told) → name_told (bare_told item) ≡ name_told item
 bare_name (TableTold t) = refl
 bare_name (IndexTold t i) = refl
+bare_name (ViewTold v) = refl
 
 pub bare_names : (items : List Told) → names_told (map bare_told items) ≡ names_told items
 bare_names [] = refl
@@ -74,14 +76,18 @@ pub index_names : (t : Table) (is : List Index) → names_told (map (λ (i : Ind
 index_names t [] = refl
 index_names t (i ∷ is) = ap (λ ns. i.name ∷ ns) (index_names t is)
 
--- the names of all that is told are those of the tables and then those of the indexes, reordered
-pub told_names : (ts : List Table) → AreReordered (names_told (all_told ts)) (names_of ts)
-told_names [] = refl
-told_names (t ∷ ts) =
-    reordered_front t.name (names_told (map (λ (i : Index). IndexTold t i) t.indexes ++ all_told ts)) (tables ++ (mine ++ others))
-    (is_reordered (mine ++ names_told (all_told ts)) (names_told (map (λ (i : Index). IndexTold t i) t.indexes ++ all_told ts)) (tables ++ (mine ++ others)) front
-    (reordered_trans (mine ++ names_told (all_told ts)) (mine ++ (tables ++ others)) (tables ++ (mine ++ others))
-    (reordered_both mine mine (names_told (all_told ts)) (tables ++ others) (reordered_refl mine) (told_names ts)) turn))
+view_names : (vs : List View) → names_told (map ViewTold vs) ≡ map (λ (v : View). v.definition.name) vs
+view_names [] = refl
+view_names (v ∷ vs) = ap (λ ns. v.definition.name ∷ ns) (view_names vs)
+
+-- the names of the tables and their indexes are those of the tables and then those of the indexes, reordered
+table_names : (ts : List Table) → AreReordered (names_told (tables_told ts)) (map (λ (t : Table). t.name) ts ++ flat_map names_in ts)
+table_names [] = refl
+table_names (t ∷ ts) =
+    reordered_front t.name (names_told (map (λ (i : Index). IndexTold t i) t.indexes ++ tables_told ts)) (tables ++ (mine ++ others))
+    (is_reordered (mine ++ names_told (tables_told ts)) (names_told (map (λ (i : Index). IndexTold t i) t.indexes ++ tables_told ts)) (tables ++ (mine ++ others)) front
+    (reordered_trans (mine ++ names_told (tables_told ts)) (mine ++ (tables ++ others)) (tables ++ (mine ++ others))
+    (reordered_both mine mine (names_told (tables_told ts)) (tables ++ others) (reordered_refl mine) (table_names ts)) turn))
   where
     mine : List Name
     mine = names_in t
@@ -92,14 +98,38 @@ told_names (t ∷ ts) =
     others : List Name
     others = flat_map names_in ts
 
-    front : mine ++ names_told (all_told ts) ≡ names_told (map (λ (i : Index). IndexTold t i) t.indexes ++ all_told ts)
-    front = sym (map_append name_told (map (λ (i : Index). IndexTold t i) t.indexes) (all_told ts) ∙ ap (λ ns. ns ++ names_told (all_told ts)) (index_names t t.indexes))
+    front : mine ++ names_told (tables_told ts) ≡ names_told (map (λ (i : Index). IndexTold t i) t.indexes ++ tables_told ts)
+    front = sym (map_append name_told (map (λ (i : Index). IndexTold t i) t.indexes) (tables_told ts) ∙ ap (λ ns. ns ++ names_told (tables_told ts)) (index_names t t.indexes))
 
     turn : AreReordered (mine ++ (tables ++ others)) (tables ++ (mine ++ others))
     turn =
         is_reordered ((mine ++ tables) ++ others) (mine ++ (tables ++ others)) (tables ++ (mine ++ others)) (append_assoc mine tables others)
         (reordered_is ((mine ++ tables) ++ others) ((tables ++ mine) ++ others) (tables ++ (mine ++ others)) (append_assoc tables mine others)
         (reordered_both (mine ++ tables) (tables ++ mine) others others (reordered_swapped mine tables) (reordered_refl others)))
+
+-- the names of all that is told are those of the tables, then those of the views and then those of the indexes, reordered
+pub told_names : (l : Listed) → AreReordered (names_told (all_told l)) (names_of l)
+told_names l =
+    is_reordered (names_told (tables_told l.tables) ++ views) (names_told (all_told l)) (tables ++ (views ++ others)) front
+    (reordered_trans (names_told (tables_told l.tables) ++ views) ((tables ++ others) ++ views) (tables ++ (views ++ others))
+    (reordered_both (names_told (tables_told l.tables)) (tables ++ others) views views (table_names l.tables) (reordered_refl views)) turn)
+  where
+    tables : List Name
+    tables = map (λ (t : Table). t.name) l.tables
+
+    views : List Name
+    views = map (λ (v : View). v.definition.name) l.views
+
+    others : List Name
+    others = flat_map names_in l.tables
+
+    front : names_told (tables_told l.tables) ++ views ≡ names_told (all_told l)
+    front = sym (map_append name_told (tables_told l.tables) (map ViewTold l.views) ∙ ap (λ ns. names_told (tables_told l.tables) ++ ns) (view_names l.views))
+
+    turn : AreReordered ((tables ++ others) ++ views) (tables ++ (views ++ others))
+    turn =
+        is_reordered (tables ++ (others ++ views)) ((tables ++ others) ++ views) (tables ++ (views ++ others)) (sym (append_assoc tables others views))
+        (reordered_both tables tables (others ++ views) (views ++ others) (reordered_refl tables) (reordered_swapped others views))
 
 -- names that stand once do in any order
 twice_out : (c d : List Name) (x : Name) → any_twice is_same_name (c ++ x ∷ d) ≡ (list_any (is_same_name x) (c ++ d) || any_twice is_same_name (c ++ d))
@@ -145,6 +175,19 @@ pub apart_more : (xs ys : List Told) → AreApart (xs ++ ys) → AreApart ys
 apart_more [] ys apart = apart
 apart_more (x ∷ xs) ys apart = apart_more xs ys (neither (list_any (is_same_name (name_told x)) (names_told (xs ++ ys))) (any_twice is_same_name (names_told (xs ++ ys))) apart).1
 
+-- a name that none of them has, none of the first has
+pub none_first : (p : Name → Bool) (xs ys : List Told) → list_any p (names_told (xs ++ ys)) ≡ false → list_any p (names_told xs) ≡ false
+none_first p [] ys h = refl
+none_first p (y ∷ xs) ys h =
+    let both = neither (p (name_told y)) (list_any p (names_told (xs ++ ys))) h in ap (λ b. b || list_any p (names_told xs)) both.0 ∙ none_first p xs ys both.1
+
+-- and so have the first
+pub apart_first : (xs ys : List Told) → AreApart (xs ++ ys) → AreApart xs
+apart_first [] ys h = refl
+apart_first (y ∷ xs) ys h =
+    let both = neither (list_any (is_same_name (name_told y)) (names_told (xs ++ ys))) (any_twice is_same_name (names_told (xs ++ ys))) h in
+    ap (λ b. b || any_twice is_same_name (names_told xs)) (none_first (is_same_name (name_told y)) xs ys both.0) ∙ apart_first xs ys both.1
+
 pub bare_apart : (items : List Told) → AreApart items → AreApart (map bare_told items)
 bare_apart items apart = ap (any_twice is_same_name) (bare_names items) ∙ apart
 
@@ -155,11 +198,11 @@ is_not : (b : Bool) → not b ≡ true → b ≡ false
 is_not true h = absurd (false≢true h)
 is_not false h = refl
 
-pub named_apart : (ts : List Table) → are_named_once ts ≡ true → AreApart (all_told ts)
-named_apart ts once = reordered_twice (names_told (all_told ts)) (names_of ts) (told_names ts) ∙ is_not (any_twice is_same_name (names_of ts)) once
+pub named_apart : (l : Listed) → are_named_once l ≡ true → AreApart (all_told l)
+named_apart l once = reordered_twice (names_told (all_told l)) (names_of l) (told_names l) ∙ is_not (any_twice is_same_name (names_of l)) once
 
-pub apart_named : (ts : List Table) → AreApart (all_told ts) → are_named_once ts ≡ true
-apart_named ts apart = ap not (sym (reordered_twice (names_told (all_told ts)) (names_of ts) (told_names ts)) ∙ apart)
+pub apart_named : (l : Listed) → AreApart (all_told l) → are_named_once l ≡ true
+apart_named l apart = ap not (sym (reordered_twice (names_told (all_told l)) (names_of l) (told_names l)) ∙ apart)
 
 -- ---- a name that is taken
 
@@ -167,15 +210,15 @@ any_named : (n : Name) (t : Table) (is : List Index) → list_any (λ (i : Index
 any_named n t [] = refl
 any_named n t (i ∷ is) = ap (λ b. b || list_any (λ (j : Index). is_same_name j.name n) is) (same_turned i.name n) ∙ ap (λ b. is_same_name n i.name || b) (any_named n t is)
 
-pub name_taken : (ts : List Table) (n : Name) → is_name_of ts n ≡ list_any (is_same_name n) (names_told (all_told ts))
-name_taken [] n = refl
-name_taken (t ∷ ts) n =
-    ap (λ b. (b || has_index n t) || is_name_of ts n) (same_turned t.name n)
-    ∙ (ap (λ b. (is_same_name n t.name || b) || is_name_of ts n) (any_named n t t.indexes)
-    ∙ (ap (λ b. (is_same_name n t.name || list_any (is_same_name n) mine) || b) (name_taken ts n)
-    ∙ (grouped (is_same_name n t.name) (list_any (is_same_name n) mine) (list_any (is_same_name n) (names_told (all_told ts)))
-    ∙ (ap (λ b. is_same_name n t.name || b) (sym (any_append (is_same_name n) mine (names_told (all_told ts))))
-    ∙ ap (λ ns. is_same_name n t.name || list_any (is_same_name n) ns) (sym (map_append name_told (map (λ (i : Index). IndexTold t i) t.indexes) (all_told ts)))))))
+tables_taken : (ts : List Table) (n : Name) → list_any (has_table_name n) ts ≡ list_any (is_same_name n) (names_told (tables_told ts))
+tables_taken [] n = refl
+tables_taken (t ∷ ts) n =
+    ap (λ b. (b || has_index n t) || list_any (has_table_name n) ts) (same_turned t.name n)
+    ∙ (ap (λ b. (is_same_name n t.name || b) || list_any (has_table_name n) ts) (any_named n t t.indexes)
+    ∙ (ap (λ b. (is_same_name n t.name || list_any (is_same_name n) mine) || b) (tables_taken ts n)
+    ∙ (grouped (is_same_name n t.name) (list_any (is_same_name n) mine) (list_any (is_same_name n) (names_told (tables_told ts)))
+    ∙ (ap (λ b. is_same_name n t.name || b) (sym (any_append (is_same_name n) mine (names_told (tables_told ts))))
+    ∙ ap (λ ns. is_same_name n t.name || list_any (is_same_name n) ns) (sym (map_append name_told (map (λ (i : Index). IndexTold t i) t.indexes) (tables_told ts)))))))
   where
     mine : List Name
     mine = names_told (map (λ (i : Index). IndexTold t i) t.indexes)
@@ -184,18 +227,29 @@ name_taken (t ∷ ts) n =
     grouped true b c = refl
     grouped false b c = refl
 
+views_taken : (vs : List View) (n : Name) → list_any (is_view n) vs ≡ list_any (is_same_name n) (names_told (map ViewTold vs))
+views_taken [] n = refl
+views_taken (v ∷ vs) n = ap (λ b. b || list_any (is_view n) vs) (same_turned v.definition.name n) ∙ ap (λ b. is_same_name n v.definition.name || b) (views_taken vs n)
+
+pub name_taken : (l : Listed) (n : Name) → is_name_of l n ≡ list_any (is_same_name n) (names_told (all_told l))
+name_taken l n =
+    ap (λ b. b || list_any (is_view n) l.views) (tables_taken l.tables n)
+    ∙ (ap (λ b. list_any (is_same_name n) (names_told (tables_told l.tables)) || b) (views_taken l.views n)
+    ∙ (sym (any_append (is_same_name n) (names_told (tables_told l.tables)) (names_told (map ViewTold l.views)))
+    ∙ ap (list_any (is_same_name n)) (sym (map_append name_told (tables_told l.tables) (map ViewTold l.views)))))
+
 -- the same of the parts
-pub name_parts : (ts : List Table) (n : Name) → is_name_of ts n ≡ list_any (is_same_name n) (names_told (parts_of ts))
-name_parts ts n = name_taken ts n ∙ ap (list_any (is_same_name n)) (sym (bare_names (all_told ts)))
+pub name_parts : (l : Listed) (n : Name) → is_name_of l n ≡ list_any (is_same_name n) (names_told (parts_of l))
+name_parts l n = name_taken l n ∙ ap (list_any (is_same_name n)) (sym (bare_names (all_told l)))
 
 -- a name that none of these items has isn't taken where they are listed
-pub not_taken : (items : List Told) (ts : List Table) (n : Name) → AreReordered items (parts_of ts) → list_any (is_same_name n) (names_told items) ≡ false → is_name_of ts n ≡ false
-not_taken items ts n h none = name_parts ts n ∙ (sym (reordered_any (is_same_name n) (names_told items) (names_told (parts_of ts)) (reordered_map name_told items (parts_of ts) h)) ∙ none)
+pub not_taken : (items : List Told) (l : Listed) (n : Name) → AreReordered items (parts_of l) → list_any (is_same_name n) (names_told items) ≡ false → is_name_of l n ≡ false
+not_taken items l n h none = name_parts l n ∙ (sym (reordered_any (is_same_name n) (names_told items) (names_told (parts_of l)) (reordered_map name_told items (parts_of l) h)) ∙ none)
 
 -- ---- one more
 
 -- with an item of a new name, names still stand once
-pub added_named : (item : Told) (old new : List Table) → AddsTold item old new → are_named_once old ≡ true → are_named_once new ≡ true
+pub added_named : (item : Told) (old new : Listed) → AddsTold item old new → are_named_once old ≡ true → are_named_once new ≡ true
 added_named item old new adds once =
     apart_named new (apart_bare (all_told new) (apart_reordered (bare_told item ∷ parts_of old) (parts_of new) adds.more first))
   where
@@ -205,34 +259,60 @@ added_named item old new adds once =
     first : AreApart (bare_told item ∷ parts_of old)
     first = ap (λ b. b || any_twice is_same_name (names_told (parts_of old))) none ∙ bare_apart (all_told old) (named_apart old once)
 
+-- ---- the parts of tables, and of views
+
+-- tables, each without its indexes, and the indexes
+abbrev pub table_parts : List Table → List Told
+table_parts ts = map bare_told (tables_told ts)
+
+bare_views : (vs : List View) → map bare_told (map ViewTold vs) ≡ map ViewTold vs
+bare_views [] = refl
+bare_views (v ∷ vs) = ap (λ ls. ViewTold v ∷ ls) (bare_views vs)
+
+pub parts_are : (l : Listed) → parts_of l ≡ table_parts l.tables ++ map ViewTold l.views
+parts_are l = map_append bare_told (tables_told l.tables) (map ViewTold l.views) ∙ ap (λ ls. table_parts l.tables ++ ls) (bare_views l.views)
+
 -- ---- columns
 
 -- a table's columns have different names
 abbrev pub HasOwnColumns : Told → Type 0
 HasOwnColumns (TableTold t) = is_twice_named t.columns ≡ false
 HasOwnColumns (IndexTold t i) = ⊤
+HasOwnColumns (ViewTold v) = ⊤
 
 pub bare_columns : (item : Told) → HasOwnColumns item → HasOwnColumns (bare_told item)
 bare_columns (TableTold t) h = h
 bare_columns (IndexTold t i) h = tt
+bare_columns (ViewTold v) h = tt
 
 pub columns_bare : (items : List Told) → AllByRecursion HasOwnColumns items → AllByRecursion HasOwnColumns (map bare_told items)
 columns_bare [] all = tt
 columns_bare (x ∷ xs) all = (bare_columns x all.0, columns_bare xs all.1)
 
+all_first : (P : Told → Type 0) (xs ys : List Told) → AllByRecursion P (xs ++ ys) → AllByRecursion P xs
+all_first P [] ys all = tt
+all_first P (x ∷ xs) ys all = (all.0, all_first P xs ys all.1)
+
 all_second : (P : Told → Type 0) (xs ys : List Told) → AllByRecursion P (xs ++ ys) → AllByRecursion P ys
 all_second P [] ys all = all
 all_second P (x ∷ xs) ys all = all_second P xs ys all.1
 
-pub columns_once : (ts : List Table) → AllByRecursion HasOwnColumns (parts_of ts) → AreOnce ts
-columns_once [] all name t found = absurd cc
-columns_once (u ∷ us) all name t found = by_test (columns_once us rest name t) (is_table name u) found
-  where
-    rest : AllByRecursion HasOwnColumns (parts_of us)
-    rest =
-        all_second HasOwnColumns (map bare_told (map (λ (i : Index). IndexTold u i) u.indexes)) (parts_of us)
-        (subst (AllByRecursion HasOwnColumns) (map_append bare_told (map (λ (i : Index). IndexTold u i) u.indexes) (all_told us)) all.1)
+-- what holds of the parts of all that is listed holds of those of the tables
+pub of_tables : (P : Told → Type 0) (l : Listed) → AllByRecursion P (parts_of l) → AllByRecursion P (table_parts l.tables)
+of_tables P l all = all_first P (table_parts l.tables) (map ViewTold l.views) (subst (AllByRecursion P) (parts_are l) all)
 
-    by_test : (find (is_table name) us ≡ Some t → is_twice_named t.columns ≡ false) → (b : Bool) → cond b (Some u) (find (is_table name) us) ≡ Some t → is_twice_named t.columns ≡ false
-    by_test later true is = let same : u ≡ t = cc in subst (λ (x : Table). is_twice_named x.columns ≡ false) same all.0
-    by_test later false is = later is
+pub columns_once : (l : Listed) → AllByRecursion HasOwnColumns (parts_of l) → AreOnce l.tables
+columns_once l all = of_each l.tables (of_tables HasOwnColumns l all)
+  where
+    of_each : (ts : List Table) → AllByRecursion HasOwnColumns (table_parts ts) → AreOnce ts
+    of_each [] all name t found = absurd cc
+    of_each (u ∷ us) all name t found = by_test (of_each us rest name t) (is_table name u) found
+      where
+        rest : AllByRecursion HasOwnColumns (table_parts us)
+        rest =
+            all_second HasOwnColumns (map bare_told (map (λ (i : Index). IndexTold u i) u.indexes)) (table_parts us)
+            (subst (AllByRecursion HasOwnColumns) (map_append bare_told (map (λ (i : Index). IndexTold u i) u.indexes) (tables_told us)) all.1)
+
+        by_test : (find (is_table name) us ≡ Some t → is_twice_named t.columns ≡ false) → (b : Bool) → cond b (Some u) (find (is_table name) us) ≡ Some t → is_twice_named t.columns ≡ false
+        by_test later true is = let same : u ≡ t = cc in subst (λ (x : Table). is_twice_named x.columns ≡ false) same all.0
+        by_test later false is = later is

@@ -12,7 +12,7 @@ use Rattle.pages.specs.Map.{PageMap, AreWhole}
 use Rattle.tree_table.specs.Rows.{rows_from}
 use Rattle.tree_table.specs.Scanning.{BeginsAll, GivesBatch, IsForward}
 use Rattle.tree_table.specs.Tree.{IsTableTree}
-use Rattle.catalog.specs.declared.tables.Table.{Table}
+use Rattle.catalog.specs.Listed.{Listed}
 use Rattle.db_load.specs.Reading.{AreIndexed, Finds, FindsRow, IsLoading, LoadsNext}
 
 pub memory_passed : {X : Type 0} (P : X → Type 0) (r : Result X Fault) (f : Fault) → IsErrAnd r (λ e. e ≡ f) → f ≡ Memory → MatchResult r P (λ fault. fault ≡ Memory)
@@ -41,41 +41,41 @@ none_found A (Err e) f is = tt
 
 -- ---- rows after rows
 
-pub finds_both : (first : Bool) (pages : ℕ) (rows more : List Entry) (old mid new : List Table) → Finds first pages rows old mid → Finds first pages more mid new → Finds first pages (rows ++ more) old new
-finds_both first pages [] more old mid new same later = subst (λ (ts : List Table). Finds first pages more ts new) same later
+pub finds_both : (first : Bool) (pages : ℕ) (rows more : List Entry) (old mid new : Listed) → Finds first pages rows old mid → Finds first pages more mid new → Finds first pages (rows ++ more) old new
+finds_both first pages [] more old mid new same later = subst (λ (ts : Listed). Finds first pages more ts new) same later
 finds_both first pages (row ∷ rows) more old mid new (then, finds, rest) later = (then, finds, finds_both first pages rows more then mid new rest later)
 
-pub finds_one : (first : Bool) (pages : ℕ) (rows up : List Entry) (row : Entry) (old mid new : List Table) → up ≡ rows ++ row ∷ [] → Finds first pages rows old mid → FindsRow first pages row mid new
+pub finds_one : (first : Bool) (pages : ℕ) (rows up : List Entry) (row : Entry) (old mid new : Listed) → up ≡ rows ++ row ∷ [] → Finds first pages rows old mid → FindsRow first pages row mid new
     → Finds first pages up old new
 finds_one first pages rows up row old mid new is so_far finds =
     subst (λ (es : List Entry). Finds first pages es old new) (sym is) (finds_both first pages rows (row ∷ []) old mid new so_far (new, finds, refl))
 
 -- these rows tell what was listed, and those are left
-pub record AreFound (first : Bool) (pages : ℕ) (rows left : List Entry) (start here : List Table) : Type 0 where
+pub record AreFound (first : Bool) (pages : ℕ) (rows left : List Entry) (start here : Listed) : Type 0 where
   pub front : List Entry
   pub parts : rows ≡ front ++ left
   pub finds : Finds first pages front start here
 
 module _ {P K : Type 0} (below : P → K) (tells : K → Bool) (limits : K → Limits) (map : P → PageMap) (count : P → ℕ) (failures : P → ℕ × ℕ) (first : Bool) (pages : ℕ) where
   -- What is so after some batches.
-  pub record HasLoaded (old now : P) (root : ℕ) (next : Option ℤ) (start here : List Table) : Type 0 where
+  pub record HasLoaded (old now : P) (root : ℕ) (next : Option ℤ) (start here : Listed) : Type 0 where
     pub stays : Stays below map count failures {T = ⊤} (Ok tt) old now
     pub same_root : root ≡ 1
-    pub loads : IsTrue (tells (below old)) → (tables : List Table) (rows : List Entry) (used : List ℕ) → AreWhole (limits (below old)).page (map old) → IsTableTree (map old) (limits (below old)).page 1 rows used
-        → AreIndexed tables → IsLoading first pages tables rows start → IsLoading first pages tables (rows_from next rows) here
+    pub loads : IsTrue (tells (below old)) → (listed : Listed) (rows : List Entry) (used : List ℕ) → AreWhole (limits (below old)).page (map old) → IsTableTree (map old) (limits (below old)).page 1 rows used
+        → AreIndexed listed → IsLoading first pages listed rows start → IsLoading first pages listed (rows_from next rows) here
     pub told : IsTrue (tells (below old)) → (rows : List Entry) (used : List ℕ) → AreWhole (limits (below old)).page (map old) → IsTableTree (map old) (limits (below old)).page 1 rows used
         → AreFound first pages rows (rows_from next rows) start here
 
-  pub at_start : (old : P) (root : ℕ) (next : Option ℤ) (start : List Table) → root ≡ 1 → BeginsAll next → HasLoaded old old root next start start
+  pub at_start : (old : P) (root : ℕ) (next : Option ℤ) (start : Listed) → root ≡ 1 → BeginsAll next → HasLoaded old old root next start start
   at_start old root next start same begin = record {
     stays = record { kept = refl; same = refl; counted = refl; causes = record { db = omega arith; log = omega arith; why = tt } };
     same_root = same;
-    loads = λ told tables rows used whole tree sound l.
-        subst (λ (es : List Entry). IsLoading first pages tables es start) (sym (begin (map old) (limits (below old)).page 1 rows used tree)) l;
+    loads = λ told listed rows used whole tree sound l.
+        subst (λ (es : List Entry). IsLoading first pages listed es start) (sym (begin (map old) (limits (below old)).page 1 rows used tree)) l;
     told = λ told rows used whole tree. record { front = []; parts = sym (begin (map old) (limits (below old)).page 1 rows used tree); finds = refl };
   }
 
-  module _ (old mid : P) (root : ℕ) (next later : Option ℤ) (start here : List Table) (batch : List Entry) (has : HasLoaded old mid root next start here) where
+  module _ (old mid : P) (root : ℕ) (next later : Option ℤ) (start here : Listed) (batch : List Entry) (has : HasLoaded old mid root next start here) where
     -- what a batch says of the pages as they were
     batch_since : (result : Result ⊤ Fault) → (IsTrue (tells (below mid)) → GivesBatch (map mid) (limits (below mid)).page root next later batch result) → IsTrue (tells (below old))
         → GivesBatch (map old) (limits (below old)).page 1 next later batch result
@@ -86,18 +86,18 @@ module _ {P K : Type 0} (below : P → K) (tells : K → Bool) (limits : K → L
 
     -- the batch and the rows after it are left
     left_now : (IsTrue (tells (below mid)) → GivesBatch (map mid) (limits (below mid)).page root next later batch (Ok tt))
-        → IsTrue (tells (below old)) → (tables : List Table) (rows : List Entry) (used : List ℕ) → AreWhole (limits (below old)).page (map old) → IsTableTree (map old) (limits (below old)).page 1 rows used
-        → AreIndexed tables → IsLoading first pages tables rows start → IsLoading first pages tables (batch ++ rows_from later rows) here
-    left_now gives told tables rows used whole tree sound l =
-        subst (λ (es : List Entry). IsLoading first pages tables es here) (batch_since (Ok tt) gives told rows used whole tree).0 (has.loads told tables rows used whole tree sound l)
+        → IsTrue (tells (below old)) → (listed : Listed) (rows : List Entry) (used : List ℕ) → AreWhole (limits (below old)).page (map old) → IsTableTree (map old) (limits (below old)).page 1 rows used
+        → AreIndexed listed → IsLoading first pages listed rows start → IsLoading first pages listed (batch ++ rows_from later rows) here
+    left_now gives told listed rows used whole tree sound l =
+        subst (λ (es : List Entry). IsLoading first pages listed es here) (batch_since (Ok tt) gives told rows used whole tree).0 (has.loads told listed rows used whole tree sound l)
 
-    pub loads_on : (new : P) (new_root : ℕ) (after : List Table) → new_root ≡ root → Stays below map count failures {T = ⊤} (Ok tt) old new
+    pub loads_on : (new : P) (new_root : ℕ) (after : Listed) → new_root ≡ root → Stays below map count failures {T = ⊤} (Ok tt) old new
         → (IsTrue (tells (below mid)) → GivesBatch (map mid) (limits (below mid)).page root next later batch (Ok tt)) → LoadsNext first pages batch here after (Ok tt) → Finds first pages batch here after
         → HasLoaded old new new_root later start after
     loads_on new new_root after same stays gives loaded finds = record {
       stays = stays;
       same_root = same ∙ has.same_root;
-      loads = λ told tables rows used whole tree sound l. loaded tables (rows_from later rows) sound (left_now gives told tables rows used whole tree sound l);
+      loads = λ told listed rows used whole tree sound l. loaded listed (rows_from later rows) sound (left_now gives told listed rows used whole tree sound l);
       told = λ told rows used whole tree.
           (let so_far = has.told told rows used whole tree in
           record {
@@ -108,10 +108,10 @@ module _ {P K : Type 0} (below : P → K) (tells : K → Bool) (limits : K → L
     }
 
     -- a row of the batch isn't read
-    pub stops_there : (f : Fault) (after : List Table) → (IsTrue (tells (below mid)) → GivesBatch (map mid) (limits (below mid)).page root next later batch (Ok tt)) → LoadsNext first pages batch here after (Err f)
-        → IsTrue (tells (below old)) → (tables : List Table) (rows : List Entry) (used : List ℕ) → AreWhole (limits (below old)).page (map old) → IsTableTree (map old) (limits (below old)).page 1 rows used
-        → AreIndexed tables → IsLoading first pages tables rows start → f ≡ Memory
-    stops_there f after gives loaded told tables rows used whole tree sound l = loaded tables (rows_from later rows) sound (left_now gives told tables rows used whole tree sound l)
+    pub stops_there : (f : Fault) (after : Listed) → (IsTrue (tells (below mid)) → GivesBatch (map mid) (limits (below mid)).page root next later batch (Ok tt)) → LoadsNext first pages batch here after (Err f)
+        → IsTrue (tells (below old)) → (listed : Listed) (rows : List Entry) (used : List ℕ) → AreWhole (limits (below old)).page (map old) → IsTableTree (map old) (limits (below old)).page 1 rows used
+        → AreIndexed listed → IsLoading first pages listed rows start → f ≡ Memory
+    stops_there f after gives loaded told listed rows used whole tree sound l = loaded listed (rows_from later rows) sound (left_now gives told listed rows used whole tree sound l)
 
     -- the next batch isn't read
     pub batch_refused : (f : Fault) → (IsTrue (tells (below mid)) → GivesBatch (map mid) (limits (below mid)).page root next later batch (Err f))
@@ -120,10 +120,10 @@ module _ {P K : Type 0} (below : P → K) (tells : K → Bool) (limits : K → L
 
     -- at the end all rows were read
     pub all_loaded : next ≡ None
-        → IsTrue (tells (below old)) → (tables : List Table) (rows : List Entry) (used : List ℕ) → AreWhole (limits (below old)).page (map old) → IsTableTree (map old) (limits (below old)).page 1 rows used
-        → AreIndexed tables → IsLoading first pages tables rows start → IsLoading first pages tables [] here
-    all_loaded none told tables rows used whole tree sound l =
-        subst (λ (es : List Entry). IsLoading first pages tables es here) (ap (λ at. rows_from at rows) none) (has.loads told tables rows used whole tree sound l)
+        → IsTrue (tells (below old)) → (listed : Listed) (rows : List Entry) (used : List ℕ) → AreWhole (limits (below old)).page (map old) → IsTableTree (map old) (limits (below old)).page 1 rows used
+        → AreIndexed listed → IsLoading first pages listed rows start → IsLoading first pages listed [] here
+    all_loaded none told listed rows used whole tree sound l =
+        subst (λ (es : List Entry). IsLoading first pages listed es here) (ap (λ at. rows_from at rows) none) (has.loads told listed rows used whole tree sound l)
 
     pub all_told : next ≡ None
         → IsTrue (tells (below old)) → (rows : List Entry) (used : List ℕ) → AreWhole (limits (below old)).page (map old) → IsTableTree (map old) (limits (below old)).page 1 rows used

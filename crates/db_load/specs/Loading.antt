@@ -1,5 +1,5 @@
 -- What `load` answers, and what one row of the schema table says (Database File Format, "Storage Of The SQL Database Schema").
-use Rattle.std.specs.Prelude.{◌≡◌, ◌<◌, ◌≤◌, true, false, ℕ, ℤ, Bool, codes, List, [], length, Option, Some, None, option_map}
+use Rattle.std.specs.Prelude.{◌≡◌, ◌<◌, ◌≤◌, true, false, ℕ, ℤ, codes, List, [], length, Option, Some, None, option_map}
 use Rattle.sqlval.specs.declared.fault.Fault.{Fault}
 use Rattle.sqlval.specs.declared.fault.Fault.TheVariants.{Blank}
 use Rattle.sqlval.specs.declared.value.Value.{Value}
@@ -12,50 +12,60 @@ use Rattle.sql_syntax.specs.declared.create.TableDefinition.{TableDefinition}
 use Rattle.sql_syntax.specs.declared.statement.Statement.{Statement}
 use Rattle.sql_grammar.specs.Statements.{is_statement_within}
 use Rattle.sql_grammar.specs.Texts.{IsStatementText}
-use Rattle.catalog.specs.Database.{Database}
-use Rattle.catalog.specs.Listed.{is_reserved, tables_of}
+use Rattle.catalog.specs.Database.{Database, Name}
+use Rattle.catalog.specs.Listed.{is_reserved, listed_in, names_listed}
 use Rattle.catalog.specs.declared.tables.Catalog.{Catalog}
 use Rattle.catalog.specs.declared.tables.Index.{Index}
 use Rattle.catalog.specs.declared.tables.Table.{Table}
+use Rattle.catalog.specs.declared.tables.View.{View}
+use Rattle.query_names.specs.Scopes.{is_doubled}
 use Rattle.db_pages.specs.Schema.{CreatesSupported, IsIndexOf, IsTableOf, schema_row}
 use Rattle.db_pages.specs.Stored.{IsCounted, Stores}
+use Rattle.db_load.specs.declared.schema.SchemaKind.{SchemaKind}
+use Rattle.db_load.specs.declared.schema.SchemaKind.TheVariants as kind
 use Rattle.db_load.specs.declared.schema.SchemaRow.{SchemaRow}
 
 -- neither a disk's failure, nor that of a full database or a blank file
 abbrev pub IsSchemaFault : Fault → Type 0
 IsSchemaFault fault = IsNotDiskFault fault × (fault ≡ Blank → ⊥)
 
--- The pages hold a database of the catalog's tables, and page 1 counts them.
+-- The pages hold a database of what the catalog lists, and page 1 counts them.
 pub record FindsDatabase (map : PageMap) (size : ℕ) (catalog : Catalog) : Type 0 where
   pub database : Database
-  pub stored : Stores map size (tables_of catalog) database
+  pub stored : Stores map size (listed_in catalog) database
   pub counted : IsCounted map
 
 -- ---- the parts of a row
 
--- the kind of a row: that of a table, or that of an index
-abbrev pub kind_text : Bool → List ℕ
-kind_text true = codes "table"
-kind_text false = codes "index"
+-- the text of a row's kind
+abbrev pub kind_text : SchemaKind → List ℕ
+kind_text kind.Table = codes "table"
+kind_text kind.Index = codes "index"
+kind_text kind.View = codes "view"
+
+-- the page, of so many, where the tree of a row begins: a view has none
+abbrev pub IsRootFor : ℕ → SchemaKind → ℕ → Type 0
+IsRootFor pages kind.Table root = (1 < root) × (root ≤ pages)
+IsRootFor pages kind.Index root = (1 < root) × (root ≤ pages)
+IsRootFor pages kind.View root = root ≡ 0
 
 -- the text of a row, or none
 abbrev pub text_of : SchemaRow → Option (List ℕ)
 text_of row = option_map (λ text. text.now) row.sql
 
 -- the parts of a row
-pub record HasParts (id : ℤ) (kind : Bool) (called table_called : List ℕ) (page : ℕ) (text : Option (List ℕ)) (row : SchemaRow) : Type 0 where
+pub record HasParts (id : ℤ) (its_kind : SchemaKind) (called table_called : List ℕ) (page : ℕ) (text : Option (List ℕ)) (row : SchemaRow) : Type 0 where
   pub rowid_is : row.rowid ≡ id
-  pub kind_is : row.is_table ≡ kind
+  pub kind_is : row.kind ≡ its_kind
   pub name_is : row.name.now ≡ called
   pub table_name_is : row.table_name.now ≡ table_called
   pub root_is : row.root ≡ page
   pub sql_is : text_of row ≡ text
 
--- The values are those of a row with these parts. The page where its tree begins is one of so many.
+-- The values are those of a row with these parts. The page where its tree begins, if it has one, is one of so many.
 pub record AreRowValues (pages : ℕ) (row : SchemaRow) (values : List Value) : Type 0 where
-  pub values_are : values ≡ schema_row (kind_text row.is_table) row.name.now row.table_name.now row.root (text_of row)
-  pub above : 1 < row.root
-  pub within : row.root ≤ pages
+  pub values_are : values ≡ schema_row (kind_text row.kind) row.name.now row.table_name.now row.root (text_of row)
+  pub rooted : IsRootFor pages row.kind row.root
 
 -- The row has a text, which is this statement within the limits.
 pub record IsTextOf (row : SchemaRow) (statement : Statement) : Type 0 where
@@ -71,11 +81,11 @@ pub record IsTextOf (row : SchemaRow) (statement : Statement) : Type 0 where
 abbrev pub bare : Table → Table
 bare table = record table { indexes = [] }
 
--- The definition's name isn't reserved. The row has that name twice.
-pub record IsOfRow (row : SchemaRow) (definition : TableDefinition) : Type 0 where
-  pub name_is : is_same_name definition.name row.name.now ≡ true
-  pub table_name_is : is_same_name definition.name row.table_name.now ≡ true
-  pub free : is_reserved definition.name ≡ false
+-- The name isn't reserved. The row has it twice.
+pub record IsOfRow (row : SchemaRow) (called : Name) : Type 0 where
+  pub name_is : is_same_name called row.name.now ≡ true
+  pub table_name_is : is_same_name called row.table_name.now ≡ true
+  pub free : is_reserved called ≡ false
 
 -- The parts of a row tell this table.
 pub record TellsTable (table : Table) (row : SchemaRow) : Type 0 where
@@ -83,7 +93,7 @@ pub record TellsTable (table : Table) (row : SchemaRow) : Type 0 where
   pub text_is : text_of row ≡ Some text
   pub definition : TableDefinition
   pub creates : CreatesSupported text (new.Table definition)
-  pub names : IsOfRow row definition
+  pub names : IsOfRow row definition.name
   pub makes : IsTableOf definition table
   pub root_is : table.root ≡ row.root
   pub rowid_is : table.rowid ≡ row.rowid
@@ -112,3 +122,12 @@ pub record TellsKeyIndex (table : Table) (index : Index) (row : SchemaRow) : Typ
   pub table_name_is : is_same_name table.name row.table_name.now ≡ true
   pub root_is : index.root ≡ row.root
   pub rowid_is : index.rowid ≡ row.rowid
+
+-- The parts of a row tell this view.
+pub record TellsView (view : View) (row : SchemaRow) : Type 0 where
+  pub text : List ℕ
+  pub text_is : text_of row ≡ Some text
+  pub creates : CreatesSupported text (new.View view.definition)
+  pub names : IsOfRow row view.definition.name
+  pub once : is_doubled (names_listed view.definition) ≡ false
+  pub rowid_is : view.rowid ≡ row.rowid

@@ -13,7 +13,7 @@ use Rattle.tree_page.specs.Cells.{Pairwise}
 use Rattle.tree_table.specs.Tree.{IsTableTree}
 use Rattle.db_layout.specs.Layout.{IsTree, Owner, used_by}
 use Rattle.db_layout.specs.Trees.{AreTreesOf, IsEntriesTree}
-use Rattle.catalog.specs.Listed.{are_named_once, shape_of, tables_of}
+use Rattle.catalog.specs.Listed.{Listed, are_named_once, listed_in, shape_of}
 use Rattle.catalog.specs.declared.tables.Catalog.{Catalog}
 use Rattle.catalog.specs.declared.tables.Index.{Index}
 use Rattle.catalog.specs.declared.tables.Table.{Table}
@@ -57,27 +57,27 @@ pub record Uses : Type 0 where
 abbrev pub pages_used : Uses → List ℕ
 pages_used uses = uses.schema_used ++ (pages_held uses.held ++ pages_of uses.trunks)
 
--- The pages are used so: the schema table's rows tell these tables, each of them has its trees and the indexes that its keys ask for, and the
--- header tells the freelist.
-pub record AreUses (map : PageMap) (size : ℕ) (header : Header) (tables : List Table) (uses : Uses) : Type 0 where
+-- The pages are used so: the schema table's rows tell these tables, indexes and views, each table has its trees and the indexes that its keys
+-- ask for, and the header tells the freelist.
+pub record AreUses (map : PageMap) (size : ℕ) (header : Header) (l : Listed) (uses : Uses) : Type 0 where
   pub tree : IsTableTree map size 1 uses.schema uses.schema_used
-  pub tell : AreRowsOf (length map) tables uses.schema
-  pub once : are_named_once tables ≡ true
-  pub keys : AllByRecursion HasKeyIndexes tables
-  pub each : Pairwise (HasTrees map size) tables uses.held
+  pub tell : AreRowsOf (length map) l uses.schema
+  pub once : are_named_once l ≡ true
+  pub keys : AllByRecursion HasKeyIndexes l.tables
+  pub each : Pairwise (HasTrees map size) l.tables uses.held
   pub listed : IsFreelist map size header.freelist_trunk header.freelist_count uses.trunks
 
--- The pages are marked that are used so for the catalog's tables, and so are those of any other uses.
+-- The pages are marked that are used so for what the catalog lists, and so are those of any other uses.
 pub record IsLoaded (map : PageMap) (size : ℕ) (header : Header) (old new : List Bool) (catalog : Catalog) : Type 0 where
-  pub marked : HasMarked (AreUses map size header (tables_of catalog)) pages_used old new
-  pub same : (tables : List Table) (uses : Uses) → AreUses map size header tables uses → AreUnmarked old (pages_used uses)
+  pub marked : HasMarked (AreUses map size header (listed_in catalog)) pages_used old new
+  pub same : (l : Listed) (uses : Uses) → AreUses map size header l uses → AreUnmarked old (pages_used uses)
       → Marks old new (pages_used uses)
 
 -- where the call answered, tables were loaded and pages marked; where pages that aren't marked are used so, memory was short, or a disk's
 -- call failed
 abbrev pub LoadsUses : PageMap → ℕ → Header → List Bool → List Bool → Result Catalog Fault → Type 0
 LoadsUses map size header old new (Ok catalog) = IsLoaded map size header old new catalog
-LoadsUses map size header old new (Err fault) = (tables : List Table) (uses : Uses) → AreUses map size header tables uses
+LoadsUses map size header old new (Err fault) = (l : Listed) (uses : Uses) → AreUses map size header l uses
     → AreUnmarked old (pages_used uses) → IsOutside fault
 
 -- each page is marked, from page 1 on
@@ -88,14 +88,14 @@ AreAllMarked marks = (n : ℕ) → 1 ≤ n → n < length marks → mark_of n ma
 abbrev pub IsEachOnce : PageMap → List ℕ → Type 0
 IsEachOnce map pages = (n : ℕ) → occurs n pages ≡ fresh 0 (length map) n
 
--- The catalog's tables are those that the uses of the pages tell, each page once.
+-- What the catalog lists is what the uses of the pages tell, each page once.
 pub record HasAll (map : PageMap) (size : ℕ) (header : Header) (catalog : Catalog) : Type 0 where
   pub uses : Uses
-  pub are : AreUses map size header (tables_of catalog) uses
+  pub are : AreUses map size header (listed_in catalog) uses
   pub once : IsEachOnce map (pages_used uses)
 
 -- where the call answered, tables were loaded and each page is used once; where it is, memory was short, or a disk's call failed
 abbrev pub LoadsAll : PageMap → ℕ → Header → Result Catalog Fault → Type 0
 LoadsAll map size header (Ok catalog) = HasAll map size header catalog
-LoadsAll map size header (Err fault) = (tables : List Table) (uses : Uses) → AreUses map size header tables uses
+LoadsAll map size header (Err fault) = (l : Listed) (uses : Uses) → AreUses map size header l uses
     → IsEachOnce map (pages_used uses) → IsOutside fault

@@ -5,7 +5,7 @@ ghost use Rattle.std.specs.List.{list_all};
 ghost use Rattle.sqlval.specs.Faults.{IsOrMemory};
 ghost use Rattle.sqlval.specs.Names as spelled;
 ghost use Rattle.sqlval.specs.Names.{is_same_name};
-ghost use Rattle.catalog.specs.Listed.{is_name_of, shared, table_named, tables_of};
+ghost use Rattle.catalog.specs.Listed.{is_name_of, listed_in, shared, table_named, tables_of};
 ghost use Rattle.catalog.specs.declared.tables.Index.{Index as Listed};
 ghost use Rattle.catalog.specs.declared.tables.IndexColumn.{IndexColumn as Keyed};
 ghost use Rattle.catalog.specs.declared.tables.Table.{Table as Owned};
@@ -72,10 +72,10 @@ fn automatic_index(alloc: Global, table: &Table, row: &SchemaRow<'_>) -> R<Index
 /// The listed table on which a row tells an index of a new name. (`Damaged(Schema, 1)`.)
 fn owner_of<'a>(catalog: &'a Catalog, row: &SchemaRow<'_>) -> R<&'a Table>
     ensures tells { (owner : Owned) → table_named row.now.table_name.now (tables_of catalog.now) ≡ Some owner
-        → is_name_of (tables_of catalog.now) row.now.name.now ≡ false
+        → is_name_of (listed_in catalog.now) row.now.name.now ≡ false
         → IsOkAnd result (λ found. found.now ≡ owner) }
     ensures found { IfOk result (λ owner. (table_named row.now.table_name.now (tables_of catalog.now)
-        ≡ Some owner.now) × (is_name_of (tables_of catalog.now) row.now.name.now ≡ false)) }
+        ≡ Some owner.now) × (is_name_of (listed_in catalog.now) row.now.name.now ≡ false)) }
     ensures not_disk { IfErr result (λ fault. IsSchemaFault fault) }
 {
     if catalog.has_name(row.name) {
@@ -90,9 +90,9 @@ fn owner_of<'a>(catalog: &'a Catalog, row: &SchemaRow<'_>) -> R<&'a Table>
 /// A copy of the table on which a row without a text tells an automatic index, with that index after its others.
 pub(crate) fn grown_by_key(alloc: Global, catalog: &Catalog, row: &SchemaRow<'_>) -> R<Table>
     ensures tells { (table : Owned) (index : Listed) → TellsKeyIndex table index row.now
-        → CanGrow (tables_of catalog.now) table index
+        → CanGrow (listed_in catalog.now) table index
         → IsOrMemory (IsGrown (tables_of catalog.now) table index) result }
-    ensures found { text_of row.now ≡ None → IfOk result (GrowsBy (tables_of catalog.now) row.now) }
+    ensures found { text_of row.now ≡ None → IfOk result (GrowsBy (listed_in catalog.now) row.now) }
     ensures not_disk { IfErr result (λ fault. IsSchemaFault fault) }
 {
     let owner = owner_of(catalog, row)?;

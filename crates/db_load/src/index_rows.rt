@@ -6,7 +6,7 @@ ghost use Rattle.sql_syntax.specs.declared.create.Create.{Create as Made};
 ghost use Rattle.sql_syntax.specs.declared.create.IndexDefinition.{IndexDefinition as Defined};
 ghost use Rattle.sql_syntax.specs.declared.create.NewObject.TheVariants as new;
 ghost use Rattle.sql_syntax.specs.declared.statement.Statement.TheVariants as parsed;
-ghost use Rattle.catalog.specs.Listed.{is_name_of, table_named, tables_of};
+ghost use Rattle.catalog.specs.Listed.{is_name_of, listed_in, table_named, tables_of};
 ghost use Rattle.catalog.specs.NewIndexes as listed;
 ghost use Rattle.catalog.specs.declared.tables.Index.{Index as Listed};
 ghost use Rattle.catalog.specs.declared.tables.Table.{Table as Owned};
@@ -14,6 +14,7 @@ ghost use Rattle.query_names.specs.Bound.{AreOnce};
 ghost use Rattle.query_bind.specs.Indexed.{IsIndexOn};
 ghost use Rattle.db_pages.specs.Schema as told;
 ghost use Rattle.db_load.specs.Loading.{IsOfIndexRow, IsSchemaFault, IsTextOf, TellsIndex, TellsKeyIndex};
+ghost use Rattle.db_load.specs.declared.schema.SchemaKind.TheVariants as kind;
 ghost use Rattle.db_load.specs.Reading.{AreSound, CanGrow, FindsParts, GrowsBy, IsGrown, ReadsTold};
 
 use crate::automatic::grown_by_key;
@@ -70,10 +71,10 @@ fn bound_in<'a>(
     catalog: &'a Catalog,
     definition: &IndexDefinition,
 ) -> R<BoundIndex<'a>>
-    ensures tells { (table : Owned) (index : Listed) (can : CanGrow (tables_of catalog.now) table index)
+    ensures tells { (table : Owned) (index : Listed) (can : CanGrow (listed_in catalog.now) table index)
         → told.IsIndexOf definition.now table index → IfErr result (λ fault. fault ≡ Fault.Memory) }
     ensures found { AreOnce (tables_of catalog.now)
-        → IfOk result (λ made. IsIndexOn (tables_of catalog.now) definition.now made.table.now made.columns) }
+        → IfOk result (λ made. IsIndexOn (listed_in catalog.now) definition.now made.table.now made.columns) }
     ensures not_disk { IfErr result (λ fault. IsSchemaFault fault) }
 {
     match bind_index(alloc, catalog, definition) {
@@ -86,10 +87,10 @@ fn bound_in<'a>(
 fn grown(alloc: Global, catalog: &Catalog, row: &SchemaRow<'_>, statement: &Statement) -> R<Table>
     ensures tells { (table : Owned) (index : Listed) (tells : TellsIndex table index row.now) (made : Made)
         → statement.now ≡ parsed.Create made → made.object ≡ new.Index tells.definition
-        → CanGrow (tables_of catalog.now) table index
+        → CanGrow (listed_in catalog.now) table index
         → IsOrMemory (IsGrown (tables_of catalog.now) table index) result }
     ensures found { IsTextOf row.now statement.now → AreOnce (tables_of catalog.now)
-        → IfOk result (GrowsBy (tables_of catalog.now) row.now) }
+        → IfOk result (GrowsBy (listed_in catalog.now) row.now) }
     ensures not_disk { IfErr result (λ fault. IsSchemaFault fault) }
 {
     let definition = index_definition_in(statement)?;
@@ -110,10 +111,10 @@ fn grown(alloc: Global, catalog: &Catalog, row: &SchemaRow<'_>, statement: &Stat
 /// A copy of the table on which a row with a text tells an index, with that index after its others.
 fn grown_by_text(alloc: Global, catalog: &Catalog, row: &SchemaRow<'_>) -> R<Table>
     ensures tells { (table : Owned) (index : Listed) → TellsIndex table index row.now
-        → CanGrow (tables_of catalog.now) table index
+        → CanGrow (listed_in catalog.now) table index
         → IsOrMemory (IsGrown (tables_of catalog.now) table index) result }
     ensures found { AreOnce (tables_of catalog.now)
-        → IfOk result (GrowsBy (tables_of catalog.now) row.now) }
+        → IfOk result (GrowsBy (listed_in catalog.now) row.now) }
     ensures not_disk { IfErr result (λ fault. IsSchemaFault fault) }
 {
     let statement = statement_of(alloc, row)?;
@@ -126,10 +127,10 @@ fn grown_by_text(alloc: Global, catalog: &Catalog, row: &SchemaRow<'_>) -> R<Tab
 fn grown_by(alloc: Global, catalog: &Catalog, row: &SchemaRow<'_>) -> R<Table>
     ensures tells { (table : Owned) (index : Listed)
         → TellsIndex table index row.now ⊎ TellsKeyIndex table index row.now
-        → CanGrow (tables_of catalog.now) table index
+        → CanGrow (listed_in catalog.now) table index
         → IsOrMemory (IsGrown (tables_of catalog.now) table index) result }
     ensures found { AreOnce (tables_of catalog.now)
-        → IfOk result (GrowsBy (tables_of catalog.now) row.now) }
+        → IfOk result (GrowsBy (listed_in catalog.now) row.now) }
     ensures not_disk { IfErr result (λ fault. IsSchemaFault fault) }
 {
     match row.sql {
@@ -143,10 +144,10 @@ pub(crate) fn add_index(alloc: Global, catalog: &mut Catalog, row: &SchemaRow<'_
     // Where a row tells an index of a new name of a listed table, it is listed, unless memory runs out.
     ensures tells { (table : Owned) (index : Listed)
         → TellsIndex table index row.now ⊎ TellsKeyIndex table index row.now
-        → ReadsTold false (told.IndexTold table index) (tables_of catalog.old) (tables_of catalog.new) result }
+        → ReadsTold false (told.IndexTold table index) (listed_in catalog.old) (listed_in catalog.new) result }
     // What is listed is the index that the row tells.
-    ensures found { row.now.is_table ≡ false → AreSound (tables_of catalog.old)
-        → OnOk result (FindsParts false row.now (tables_of catalog.old) (tables_of catalog.new)) }
+    ensures found { row.now.kind ≡ kind.Index → AreSound (listed_in catalog.old)
+        → OnOk result (FindsParts false row.now (listed_in catalog.old) (listed_in catalog.new)) }
     ensures not_disk { IfErr result (λ fault. IsSchemaFault fault) }
 {
     let table = grown_by(alloc, catalog, row)?;

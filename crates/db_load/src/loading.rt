@@ -1,12 +1,12 @@
-//! Loading the tables and indexes of a database.
+//! Loading the tables, indexes and views of a database.
 
-ghost use Rattle.std.specs.Prelude.{◌≡◌, ◌↔◌, ℕ, List, IsTrue, Ok, IfOk, IfErr, OnOk, length};
+ghost use Rattle.std.specs.Prelude.{◌≡◌, ◌↔◌, ℕ, IsTrue, Ok, IfOk, IfErr, OnOk, length};
 ghost use Rattle.sqlval.specs.Faults.{IsNotDiskFault, IsOutside};
 ghost use Rattle.sqlval.specs.PageSizes.{IsPageSize};
 ghost use Rattle.pages.specs.Calls.{Stays};
 ghost use Rattle.pages.specs.Map.{PageMap, AreWhole};
 ghost use Rattle.catalog.specs.Database.{Database};
-ghost use Rattle.catalog.specs.declared.tables.Table.{Table};
+ghost use Rattle.catalog.specs.Listed.{Listed};
 ghost use Rattle.tree_check.specs.Checks.{CanMark};
 ghost use Rattle.tree_check.specs.Exact.{AreTold};
 ghost use Rattle.db_pages.specs.Stored.{IsCounted, Stores};
@@ -48,7 +48,7 @@ fn check_marks(marks: &[bool]) -> R<()>
     Ok(())
 }
 
-/// Loads the tables of a database of `size` pages, checks all trees and the freelist that the header tells, and marks their pages.
+/// Loads what a database of `size` pages lists, checks all trees and the freelist that the header tells, and marks their pages.
 /// (What `check_tree`, `load_schema`, `check_tables` and `check_freelist` refuse.)
 fn load_uses<P: Pages>(
     alloc: Global,
@@ -71,7 +71,7 @@ fn load_uses<P: Pages>(
     Ok(catalog)
 }
 
-/// Loads the tables of a database of `size` pages with this header, and checks that each page is used once. (What `load_uses` and
+/// Loads what a database of `size` pages with this header lists, and checks that each page is used once. (What `load_uses` and
 /// `check_marks` refuse.)
 fn load_marked<P: Pages>(alloc: Global, pages: &mut P, size: u32, header: Header) -> R<Catalog>
     ensures loaded { (map : PageMap) (page : ℕ)
@@ -86,12 +86,12 @@ fn load_marked<P: Pages>(alloc: Global, pages: &mut P, size: u32, header: Header
     Ok(catalog)
 }
 
-/// The tables of the database that the pages hold. (What `check_whole`, `read_header` and `load_marked` refuse.)
+/// What the database that the pages hold lists. (What `check_whole`, `read_header` and `load_marked` refuse.)
 fn load_checked<P: Pages>(alloc: Global, pages: &mut P, size: u32) -> R<Catalog>
-    ensures listed { (tables : List Table) (database : Database)
+    ensures listed { (l : Listed) (database : Database)
         → IsTrue (P.Pages.tells (P.Pages.below pages.old))
         → size ≡ length (P.Pages.map pages.old)
-        → Stores (P.Pages.map pages.old) (P.Pages.limits (P.Pages.below pages.old)).page tables database
+        → Stores (P.Pages.map pages.old) (P.Pages.limits (P.Pages.below pages.old)).page l database
         → IsCounted (P.Pages.map pages.old) → IfErr result IsOutside }
     ensures found { IsTrue (P.Pages.tells (P.Pages.below pages.old))
         → size ≡ length (P.Pages.map pages.old)
@@ -116,16 +116,16 @@ fn not_blank(fault: Fault) -> Fault
     }
 }
 
-/// The tables of the database that the pages hold. (`Damaged` or `Unsupported` for pages that hold none; `Memory`; what `load` of the
+/// The tables, indexes and views of the database that the pages hold. (`Damaged` or `Unsupported` for pages that hold none; `Memory`; what `load` of the
 /// pages refuses, except for `Blank`.)
 pub fn load<P: Pages>(alloc: Global, pages: &mut P, size: u32) -> R<Catalog>
-    // The tables of pages that hold a database are loaded, unless memory runs out or a disk's call fails.
-    ensures listed { (tables : List Table) (database : Database)
+    // What pages that hold a database list is loaded, unless memory runs out or a disk's call fails.
+    ensures listed { (l : Listed) (database : Database)
         → IsTrue (P.Pages.tells (P.Pages.below pages.old))
         → size ≡ length (P.Pages.map pages.old)
-        → Stores (P.Pages.map pages.old) (P.Pages.limits (P.Pages.below pages.old)).page tables database
+        → Stores (P.Pages.map pages.old) (P.Pages.limits (P.Pages.below pages.old)).page l database
         → IsCounted (P.Pages.map pages.old) → IfErr result IsOutside }
-    // Tables are loaded only of a database that the pages hold.
+    // A catalog is loaded only of a database that the pages hold.
     ensures found { IsTrue (P.Pages.tells (P.Pages.below pages.old))
         → size ≡ length (P.Pages.map pages.old)
         → IfOk result (FindsDatabase (P.Pages.map pages.old) (P.Pages.limits (P.Pages.below pages.old)).page) }

@@ -1,6 +1,6 @@
 //! The rows of the schema table, and the tables that they tell.
 
-ghost use Rattle.std.specs.Prelude.{◌≡◌, ◌<◌, ◌≤◌, ◌++◌, ◌∷◌, ℕ, Bool, List, [], Option, Some, Ok, IfOk, IfErr, IsOkAnd, OnOk, true, false, pos, map, option_map};
+ghost use Rattle.std.specs.Prelude.{◌≡◌, ◌<◌, ◌≤◌, ◌++◌, ◌∷◌, ℕ, List, [], Option, Some, Ok, IfOk, IfErr, IsOkAnd, OnOk, true, false, pos, map, option_map};
 ghost use Rattle.sqlval.specs.Fields.{value_of};
 ghost use Rattle.sqlval.specs.declared.value.Value.TheVariants as value;
 ghost use Rattle.sql_syntax.specs.declared.create.NewObject.TheVariants as new;
@@ -8,7 +8,7 @@ ghost use Rattle.sql_syntax.specs.declared.statement.Statement.{Statement as Par
 ghost use Rattle.sql_syntax.specs.declared.statement.Statement.TheVariants as parsed;
 ghost use Rattle.sql_syntax.specs.declared.create.Create.{Create as Made};
 ghost use Rattle.sqlval.specs.Faults.{IsOrMemory};
-ghost use Rattle.catalog.specs.Listed.{is_name_of, tables_of};
+ghost use Rattle.catalog.specs.Listed.{is_name_of, listed_in};
 ghost use Rattle.query_terms.specs.Terms.{Term};
 ghost use Rattle.query_names.specs.Bound.{is_twice_named};
 ghost use Rattle.query_names.specs.Checked.{good};
@@ -17,25 +17,35 @@ ghost use Rattle.db_files.specs.Schema.{sql_value};
 ghost use Rattle.db_pages.specs.Schema.{schema_row};
 ghost use Rattle.db_pages.specs.Schema as told;
 ghost use Rattle.db_load.specs.Loading as loading;
-ghost use Rattle.db_load.specs.Loading.{AreRowValues, HasParts, IsOfRow, IsSchemaFault, IsTextOf, TellsTable, bare, kind_text};
-ghost use Rattle.db_load.specs.Reading.{AreSound, FindsParts, ReadsTold};
+ghost use Rattle.db_load.specs.Loading.{AreRowValues, HasParts, IsOfRow, IsRootFor, IsSchemaFault, IsTextOf, TellsTable, bare, kind_text};
+ghost use Rattle.db_load.specs.Reading.{FindsParts, ReadsTold};
+ghost use Rattle.db_load.specs.declared.schema.SchemaKind.{SchemaKind as Kind};
+ghost use Rattle.db_load.specs.declared.schema.SchemaKind.TheVariants as kinds;
 
 use catalog::{Catalog, Checks, Column, Table, is_reserved};
 use query_names::{BoundKeys, bind_checks, bind_columns, bind_keys};
 use record::Record;
 use sql_parser::{parse, release};
 use sql_syntax::{Create, NewObject, Statement, TableDefinition};
-use sqlval::{Damage, Fault, Feature, Field, Many, R};
+use sqlval::{Damage, Fault, Feature, Field, Many, Name, R};
 use std::alloc::Global;
+
+/// What a row of the schema table tells.
+#[derive(Clone, Copy)]
+pub(crate) enum SchemaKind {
+    Table,
+    Index,
+    View,
+}
 
 /// A row of the schema table.
 #[derive(Clone, Copy)]
 pub(crate) struct SchemaRow<'a> {
     pub rowid: i64,
-    /// Whether it is that of a table. Else it is that of an index.
-    pub is_table: bool,
+    pub kind: SchemaKind,
     pub name: &'a str,
     pub table_name: &'a str,
+    /// 0 of a view.
     pub root: u32,
     /// None of an automatic index.
     pub sql: Option<&'a str>,
@@ -59,18 +69,17 @@ pub(crate) fn outside(fault: Fault) -> Fault
     }
 }
 
-/// Whether the row is that of a table. Else it is that of an index.
-fn is_of_table(kind: Field<'_>) -> R<bool>
-    ensures tells { (is : Bool) → value_of kind.entry ≡ value.Text (kind_text is) → result ≡ Ok is }
-    ensures found { IfOk result (λ is. value_of kind.entry ≡ value.Text (kind_text is)) }
+/// The kind of a row.
+fn kind_of(field: Field<'_>) -> R<SchemaKind>
+    ensures tells { (kind : Kind) → value_of field.entry ≡ value.Text (kind_text kind) → result ≡ Ok kind }
+    ensures found { IfOk result (λ kind. value_of field.entry ≡ value.Text (kind_text kind)) }
     ensures not_disk { IfErr result (λ fault. IsSchemaFault fault) }
 {
-    match kind {
-        Field::Text("table") => Ok(true),
-        Field::Text("index") => Ok(false),
-        Field::Text("view") | Field::Text("trigger") => {
-            Err(Fault::Unsupported(Feature::StatementForm))
-        }
+    match field {
+        Field::Text("table") => Ok(SchemaKind::Table),
+        Field::Text("index") => Ok(SchemaKind::Index),
+        Field::Text("view") => Ok(SchemaKind::View),
+        Field::Text("trigger") => Err(Fault::Unsupported(Feature::StatementForm)),
         _ => Err(damaged()),
     }
 }
@@ -102,7 +111,7 @@ fn sql_of<'a>(field: Field<'a>) -> R<Option<&'a str>>
     }
 }
 
-/// The text of a row, which a table and an index that isn't automatic has.
+/// The text of a row, which only an automatic index has none of.
 fn text_in<'a>(row: &SchemaRow<'a>) -> R<&'a str>
     ensures tells { (text : List ℕ) → loading.text_of row.now ≡ Some text
         → IsOkAnd result (λ found. found.now ≡ text) }
@@ -115,40 +124,52 @@ fn text_in<'a>(row: &SchemaRow<'a>) -> R<&'a str>
     }
 }
 
-/// The number of the page where a tree begins: from 2 to `size`.
-fn root_of(field: Field<'_>, size: u32) -> R<u32>
-    ensures tells { (root : ℕ) → value_of field.entry ≡ value.Int (pos root) → 1 < root
-        → root ≤ size → result ≡ Ok root }
-    ensures found { IfOk result (λ root. (value_of field.entry ≡ value.Int (pos root)) × (1 < root)
-        × (root ≤ size)) }
+/// Whether the tree of a row begins at this page: from 2 to `size`, and 0 for a view, which has none.
+fn is_root(kind: SchemaKind, root: u32, size: u32) -> bool
+    ensures found { result ≡ true → IsRootFor size kind root }
+    ensures only { IsRootFor size kind root → result ≡ true }
+{
+    match kind {
+        SchemaKind::Table | SchemaKind::Index => root > 1 && root <= size,
+        SchemaKind::View => root == 0,
+    }
+}
+
+/// The number of the page where the tree of a row of this kind begins, as `is_root` says.
+fn root_of(kind: SchemaKind, field: Field<'_>, size: u32) -> R<u32>
+    ensures tells { (root : ℕ) → value_of field.entry ≡ value.Int (pos root) → IsRootFor size kind root
+        → result ≡ Ok root }
+    ensures found { IfOk result (λ root. (value_of field.entry ≡ value.Int (pos root))
+        × IsRootFor size kind root) }
     ensures not_disk { IfErr result (λ fault. IsSchemaFault fault) }
 {
     let Field::Int(root) = field else {
         return Err(damaged());
     };
     match u32::try_from(root) {
-        Ok(root) if root > 1 && root <= size => Ok(root),
+        Ok(root) if is_root(kind, root, size) => Ok(root),
         _ => Err(damaged()),
     }
 }
 
 /// The parts of a row of this rowid, in a database of `size` pages.
 pub(crate) fn row_of<'a>(rowid: i64, row: &Record<'a>, size: u32) -> R<SchemaRow<'a>>
-    ensures tells { (is : Bool) (name table_name : List ℕ) (root : ℕ) (sql : Option (List ℕ))
-        → row.now ≡ schema_row (kind_text is) name table_name root sql → 1 < root → root ≤ size
-        → IsOkAnd result (HasParts rowid is name table_name root sql) }
+    ensures tells { (kind : Kind) (name table_name : List ℕ) (root : ℕ) (sql : Option (List ℕ))
+        → row.now ≡ schema_row (kind_text kind) name table_name root sql → IsRootFor size kind root
+        → IsOkAnd result (HasParts rowid kind name table_name root sql) }
     ensures found { IfOk result (λ parts. AreRowValues size parts row.now × (parts.rowid ≡ rowid)) }
     ensures not_disk { IfErr result (λ fault. IsSchemaFault fault) }
 {
     if row.len() != 5 {
         return Err(Fault::Unsupported(Feature::ColumnCount));
     }
+    let kind = kind_of(row.column(0))?;
     Ok(SchemaRow {
         rowid,
-        is_table: is_of_table(row.column(0))?,
+        kind,
         name: text_of(row.column(1))?,
         table_name: text_of(row.column(2))?,
-        root: root_of(row.column(3), size)?,
+        root: root_of(kind, row.column(3), size)?,
         sql: sql_of(row.column(4))?,
     })
 }
@@ -248,19 +269,19 @@ fn keys_in(alloc: Global, definition: &TableDefinition, columns: &[Column]) -> R
     }
 }
 
-/// Checks that the definition has the row's names, and that they may be given.
-fn is_of_row(definition: &TableDefinition, row: &SchemaRow<'_>) -> R<()>
-    ensures tells { IsOfRow row.now definition.now → result ≡ Ok tt }
-    ensures found { OnOk result (IsOfRow row.now definition.now) }
+/// Checks that the row has this name twice, and that it may be given.
+pub(crate) fn is_of_row(name: &Name, row: &SchemaRow<'_>) -> R<()>
+    ensures tells { IsOfRow row.now name.now → result ≡ Ok tt }
+    ensures found { OnOk result (IsOfRow row.now name.now) }
     ensures not_disk { IfErr result (λ fault. IsSchemaFault fault) }
 {
-    if !definition.name.is_same(row.name) {
+    if !name.is_same(row.name) {
         return Err(damaged());
     }
-    if !definition.name.is_same(row.table_name) {
+    if !name.is_same(row.table_name) {
         return Err(damaged());
     }
-    if is_reserved(definition.name.as_str()) {
+    if is_reserved(name.as_str()) {
         return Err(Fault::Unsupported(Feature::SchemaObject));
     }
     Ok(())
@@ -276,7 +297,7 @@ fn table_made(alloc: Global, row: &SchemaRow<'_>, statement: &Statement) -> R<Ta
     ensures not_disk { IfErr result (λ fault. IsSchemaFault fault) }
 {
     let definition = definition_in(statement)?;
-    is_of_row(definition, row)?;
+    is_of_row(&definition.name, row)?;
     let columns = columns_in(alloc, definition)?;
     let checks = checks_in(alloc, definition, columns.as_slice())?;
     let keys = keys_in(alloc, definition, columns.as_slice())?;
@@ -306,13 +327,13 @@ fn table_of(alloc: Global, row: &SchemaRow<'_>) -> R<Table>
     table
 }
 
-/// Checks that neither a table of the catalog nor an index has this table's name.
-fn is_new(catalog: &Catalog, table: &Table) -> R<()>
-    ensures tells { is_name_of (tables_of catalog.now) table.now.name ≡ false → result ≡ Ok tt }
-    ensures found { OnOk result (is_name_of (tables_of catalog.now) table.now.name ≡ false) }
+/// Checks that no table of the catalog, no index and no view has this name.
+pub(crate) fn is_new(catalog: &Catalog, name: &Name) -> R<()>
+    ensures tells { is_name_of (listed_in catalog.now) name.now ≡ false → result ≡ Ok tt }
+    ensures found { OnOk result (is_name_of (listed_in catalog.now) name.now ≡ false) }
     ensures not_disk { IfErr result (λ fault. IsSchemaFault fault) }
 {
-    if catalog.has_name(table.name.as_str()) {
+    if catalog.has_name(name.as_str()) {
         return Err(Fault::Unsupported(Feature::SchemaObject));
     }
     Ok(())
@@ -322,13 +343,13 @@ fn is_new(catalog: &Catalog, table: &Table) -> R<()>
 pub(crate) fn add_table(alloc: Global, catalog: &mut Catalog, row: &SchemaRow<'_>) -> R<()>
     // Where a row tells a table of a new name, that is listed, unless memory runs out.
     ensures tells { (table : Table) → TellsTable table row.now
-        → ReadsTold true (told.TableTold table) (tables_of catalog.old) (tables_of catalog.new) result }
+        → ReadsTold true (told.TableTold table) (listed_in catalog.old) (listed_in catalog.new) result }
     // What is listed is the table that the row tells.
-    ensures found { row.now.is_table ≡ true → OnOk result
-        (FindsParts true row.now (tables_of catalog.old) (tables_of catalog.new)) }
+    ensures found { row.now.kind ≡ kinds.Table → OnOk result
+        (FindsParts true row.now (listed_in catalog.old) (listed_in catalog.new)) }
     ensures not_disk { IfErr result (λ fault. IsSchemaFault fault) }
 {
     let table = table_of(alloc, row)?;
-    is_new(catalog, &table)?;
+    is_new(catalog, &table.name)?;
     catalog.add(alloc, table)
 }

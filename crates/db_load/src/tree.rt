@@ -1,8 +1,8 @@
-//! The tables and indexes of the schema, as the rows of its tree tell them.
+//! The tables, indexes and views of the schema, as the rows of its tree tell them.
 
 ghost use Rattle.std.specs.Prelude.{IsTrue, IfErr, OnOk};
 ghost use Rattle.pages.specs.Calls.{Stays};
-ghost use Rattle.catalog.specs.Listed.{tables_of};
+ghost use Rattle.catalog.specs.Listed.{listed_in};
 ghost use Rattle.db_load.specs.Loading.{IsSchemaFault};
 ghost use Rattle.db_load.specs.Reading.{Finds, FindsRows, LoadsNext, LoadsRows, LoadsTree, TellsTree};
 
@@ -18,10 +18,10 @@ use tree_table::{Batch, Cursor};
 /// The page where the tree of the schema table begins.
 const SCHEMA: u32 = 1;
 
-/// Adds the tables or the indexes that the rows of a batch tell, in a database of `size` pages. (As `add_row`.)
+/// Adds the tables and views, or the indexes, that the rows of a batch tell, in a database of `size` pages. (As `add_row`.)
 fn add_batch(alloc: Global, catalog: &mut Catalog, batch: &Batch, size: u32, tables: bool) -> R<()>
-    ensures loaded { LoadsNext tables size batch.now (tables_of catalog.old) (tables_of catalog.new) result }
-    ensures told { OnOk result (Finds tables size batch.now (tables_of catalog.old) (tables_of catalog.new)) }
+    ensures loaded { LoadsNext tables size batch.now (listed_in catalog.old) (listed_in catalog.new) result }
+    ensures told { OnOk result (Finds tables size batch.now (listed_in catalog.old) (listed_in catalog.new)) }
     ensures not_disk { IfErr result (λ fault. IsSchemaFault fault) }
 {
     'rows: for index in 0..batch.len() {
@@ -31,8 +31,8 @@ fn add_batch(alloc: Global, catalog: &mut Catalog, batch: &Batch, size: u32, tab
     Ok(())
 }
 
-/// Adds the tables or the indexes that the rows of the schema table tell, in a database of `size` pages, whatever pages the rows lie on.
-/// (As `add_row`, except for pages that are no tree of a table: those are refused as a `Cursor` does.)
+/// Adds the tables and views, or the indexes, that the rows of the schema table tell, in a database of `size` pages, whatever pages the rows
+/// lie on. (As `add_row`, except for pages that are no tree of a table: those are refused as a `Cursor` does.)
 fn add_rows<P: Pages>(
     alloc: Global,
     pages: &mut P,
@@ -42,10 +42,10 @@ fn add_rows<P: Pages>(
 ) -> R<()>
     ensures loaded { IsTrue (P.Pages.tells (P.Pages.below pages.old))
         → LoadsRows tables (P.Pages.map pages.old) (P.Pages.limits (P.Pages.below pages.old)).page size
-        (tables_of catalog.old) (tables_of catalog.new) result }
+        (listed_in catalog.old) (listed_in catalog.new) result }
     ensures told { IsTrue (P.Pages.tells (P.Pages.below pages.old))
         → FindsRows tables (P.Pages.map pages.old) (P.Pages.limits (P.Pages.below pages.old)).page size
-        (tables_of catalog.old) (tables_of catalog.new) result }
+        (listed_in catalog.old) (listed_in catalog.new) result }
     ensures stays { Stays P.Pages.below P.Pages.map P.Pages.count P.Pages.failures result pages.old pages.new }
 {
     let mut batch = Batch::new(alloc);
@@ -57,7 +57,8 @@ fn add_rows<P: Pages>(
     Ok(())
 }
 
-/// The tables that the rows of the schema table tell, with their indexes, in a database of `size` pages. (As `add_rows` and `check_keys`.)
+/// The tables that the rows of the schema table tell, with their indexes, and the views, in a database of `size` pages. (As `add_rows` and
+/// `check_keys`.)
 pub fn load_schema<P: Pages>(alloc: Global, pages: &mut P, size: u32) -> R<Catalog>
     ensures loaded { IsTrue (P.Pages.tells (P.Pages.below pages.old))
         → LoadsTree (P.Pages.map pages.old) (P.Pages.limits (P.Pages.below pages.old)).page size result }

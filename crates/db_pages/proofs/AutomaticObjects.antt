@@ -1,5 +1,5 @@
 -- The automatic indexes of a table: those of the database are those that its keys ask for, where it lists these.
-use Rattle.std.proofs.Common.{◌≡◌, ◌∙◌, refl, sym, ap, ap₂, subst, append-nil, ℕ, ℤ, Bool, true, false, not, ◌&&◌, ◌||◌, cond, filter, List, [], ◌∷◌, ◌++◌, map, Some}
+use Rattle.std.proofs.Common.{◌≡◌, ◌∙◌, refl, sym, ap, ap₂, subst, append-nil, ℕ, ℤ, Bool, true, false, ◌&&◌, ◌||◌, cond, filter, List, [], ◌∷◌, ◌++◌, map, Some}
 use Rattle.std.specs.Prelude.{flat_map}
 use Rattle.std.proofs.lemmas.Bool.{false≢true}
 use Rattle.std.proofs.lemmas.List.Elements.{filter-append}
@@ -10,15 +10,16 @@ use Rattle.sqlval.specs.Lists.{any_twice, sorted}
 use Rattle.sqlval.specs.Names.{folded, is_same_name}
 use Rattle.sqlval.specs.declared.value.Value.{Value}
 use Rattle.catalog.specs.Database.{ATable, AnIndex, AView, ATrigger, Database, Name, Object, object}
-use Rattle.catalog.specs.Listed.{as_index, index_objects, key_columns, named_among, names_of, objects_of, table_named, table_object}
-use Rattle.catalog.specs.Named.{IsNamed, IsOfTables}
+use Rattle.catalog.specs.Listed.{Listed, as_index, index_objects, key_columns, named_among, names_of, objects_of, table_named, table_object, view_object}
+use Rattle.catalog.specs.Named.{IsNamed, IsOfListed}
 use Rattle.catalog.specs.declared.tables.Index.{Index}
 use Rattle.catalog.specs.declared.tables.Table.{Table}
+use Rattle.catalog.specs.declared.tables.View.{View}
 use Rattle.catalog.proofs.NamedDatabases.{folded_twice, in_order, one_database}
 use Rattle.db_files.specs.Schema.{automatic_indexes}
 use Rattle.db_pages.specs.Schema.{HasKeyIndexes, automatic_objects, due_objects}
 use Rattle.db_pages.proofs.KeptObjects.{found_kept, kept, named_kept, named_still, own_still, those}
-use Rattle.db_pages.proofs.NamedObjects.{HaveOwnNames, built, built_finds, built_named, each_found, named_reordered, neither, objects_apart, same_named}
+use Rattle.db_pages.proofs.NamedObjects.{HaveOwnNames, built, built_finds, built_named, each_found, is_no, named_reordered, neither, objects_apart, same_named}
 use Rattle.db_pages.proofs.Reordering.{is_reordered, reordered_sym, reordered_trans}
 use Rattle.db_pages.proofs.SortedObjects.{HaveFoldedNames, built_is_sorted, by_name, due_folded, own_reordered, sorted_reordered}
 use Rattle.db_pages.proofs.StoredApart.{other_name}
@@ -115,6 +116,11 @@ module _ (t : Table) where
   behind_tables rows_at [] os = refl
   behind_tables rows_at (u ∷ us) os = behind_tables rows_at us os
 
+  -- and no view is one
+  behind_views : (vs : List View) (os : List (Name × Object)) → mine (map view_object vs ++ os) ≡ mine os
+  behind_views [] os = refl
+  behind_views (v ∷ vs) os = behind_views vs os
+
 -- ---- tables by their names
 
 -- names that are different among more names
@@ -163,29 +169,29 @@ each_kept p f P (x ∷ xs) each = by_test (p x) refl (each_kept p f P xs each.1)
     by_test true is rest = (each.0 is, rest)
     by_test false is rest = rest
 
--- ---- of a database of listed tables
+-- ---- of a listed database
 
-module _ (rows_at : ℕ → List (ℤ × List Value)) (tables : List Table) (db : Database) (of : IsOfTables rows_at tables db) where
+module _ (rows_at : ℕ → List (ℤ × List Value)) (l : Listed) (db : Database) (of : IsOfListed rows_at l db) where
   abbrev all_objects : List (Name × Object)
-  all_objects = objects_of rows_at tables
+  all_objects = objects_of rows_at l
 
   own : HaveOwnNames all_objects
-  own = objects_apart rows_at tables of.once
+  own = objects_apart rows_at l of.once
 
-  once : any_twice is_same_name (table_names tables) ≡ false
-  once = no_table_twice (table_names tables) (flat_map (λ (t : Table). map (λ (i : Index). i.name) t.indexes) tables) (is_no (any_twice is_same_name (names_of tables)) of.once)
-    where
-      is_no : (b : Bool) → not b ≡ true → b ≡ false
-      is_no true h = absurd (false≢true h)
-      is_no false h = refl
+  once : any_twice is_same_name (table_names l.tables) ≡ false
+  once =
+      no_table_twice (table_names l.tables) (map (λ (v : View). v.definition.name) l.views ++ flat_map (λ (t : Table). map (λ (i : Index). i.name) t.indexes) l.tables)
+      (is_no (any_twice is_same_name (names_of l)) of.once)
 
   -- each table is found under its name
-  pub each_named : AllByRecursion (λ (t : Table). table_named t.name tables ≡ Some t) tables
-  each_named = all_named tables once
+  pub each_named : AllByRecursion (λ (t : Table). table_named t.name l.tables ≡ Some t) l.tables
+  each_named = all_named l.tables once
 
-  module _ (t : Table) (found : table_named t.name tables ≡ Some t) where
+  module _ (t : Table) (found : table_named t.name l.tables ≡ Some t) where
     all_mine : those (made_by t.name) all_objects ≡ automatic_objects t
-    all_mine = behind_tables t rows_at tables (flat_map index_objects tables) ∙ of_tables t tables once found
+    all_mine =
+        behind_tables t rows_at l.tables (map view_object l.views ++ flat_map index_objects l.tables)
+        ∙ (behind_views t l.views (flat_map index_objects l.tables) ∙ of_tables t l.tables once found)
 
     pub own_automatic : HaveOwnNames (automatic_objects t)
     own_automatic = subst HaveOwnNames all_mine (own_still (made_by t.name) all_objects own)

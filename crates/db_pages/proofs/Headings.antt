@@ -17,7 +17,7 @@ use Rattle.freelist.specs.Calls.{HasFree}
 use Rattle.freelist.specs.Freelist.{AreTrunks, IsTrunk, Trunk, first_of, pages_of}
 use Rattle.db_layout.proofs.Sharing.{replaces_trees, trees_stand}
 use Rattle.catalog.specs.Database.{Database}
-use Rattle.catalog.specs.declared.tables.Table.{Table}
+use Rattle.catalog.specs.Listed.{Listed}
 use Rattle.db_pages.specs.Schema.{AreRowsOf}
 use Rattle.db_pages.specs.Stored.{Stores, all_trees, schema_tree}
 
@@ -113,13 +113,13 @@ module _ (old new : PageMap) (header next : Header) (is : IsReheaded old new hea
       }
 
   -- so the pages store the same
-  pub stores_new : (size : ℕ) (tables : List Table) (db : Database) → Stores old size tables db → Stores new size tables db
-  stores_new size tables db held =
+  pub stores_new : (size : ℕ) (l : Listed) (db : Database) → Stores old size l db → Stores new size l db
+  stores_new size l db held =
       let same : held.header ≡ header = one_header (page_at old 1) held.header header held.header_is is.header_is in
       let stands = trees_stand old size (schema_tree held.schema held.schema_used) (all_trees held.held) [] (all_trees held.held) 1 held.schema held.schema_used held.free held.shared refl refl (subst IsPageSize held.sized held.header_is.served) in
       record {
         rows_at = held.rows_at;
-        of_tables = held.of_tables;
+        of_listed = held.of_listed;
         once = held.once;
         keys = held.keys;
         header = next;
@@ -127,7 +127,7 @@ module _ (old new : PageMap) (header next : Header) (is : IsReheaded old new hea
         sized = is.sized ∙ (ap (λ (h : Header). h.page_size) (sym same) ∙ held.sized);
         schema = held.schema;
         schema_used = held.schema_used;
-        tell = subst (λ (n : ℕ). AreRowsOf n tables held.schema) (sym is.long) held.tell;
+        tell = subst (λ (n : ℕ). AreRowsOf n l held.schema) (sym is.long) held.tell;
         held = held.held;
         free = held.free;
         each = held.each;

@@ -4,6 +4,8 @@ pub mod Headings
 pub mod KeptObjects
 pub mod NamedObjects
 pub mod OneDatabase
+pub mod OneRow
+pub mod OneViews
 pub mod ReorderedPairs
 pub mod ReorderedSorted
 pub mod Reordering
@@ -25,6 +27,7 @@ pub mod StoredShares
 pub mod StoredTables
 pub mod StoredTreePages
 pub mod StoredTrees
+pub mod StoredViews
 pub mod ToldDues
 pub mod ToldObjects
 pub mod ToldTables

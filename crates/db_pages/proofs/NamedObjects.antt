@@ -18,10 +18,11 @@ use Rattle.sqlval.specs.Lists.{any_twice, placed, sorted}
 use Rattle.sqlval.specs.Names.{folded, is_same_name}
 use Rattle.sqlval.specs.declared.value.Value.{Value}
 use Rattle.catalog.specs.Database.{AnIndex, Database, Name, Object, name_order, object, with_object}
-use Rattle.catalog.specs.Listed.{are_named_once, index_objects, named_among, names_of, objects_of, as_index, table_object}
+use Rattle.catalog.specs.Listed.{Listed, are_named_once, index_objects, named_among, names_of, objects_of, as_index, table_object, view_object}
 use Rattle.catalog.specs.Named.{IsNamed}
 use Rattle.catalog.specs.declared.tables.Index.{Index as ListedIndex}
 use Rattle.catalog.specs.declared.tables.Table.{Table}
+use Rattle.catalog.specs.declared.tables.View.{View}
 use Rattle.catalog.proofs.NamedDatabases.{keeps_named, one_database}
 use Rattle.db_pages.specs.Reordering.{AreReordered}
 use Rattle.db_pages.proofs.Reordering.{reordered_any, reordered_map}
@@ -173,7 +174,7 @@ pub names_sorted : (os : List (Name × Object)) (db : Database) → HaveOwnNames
 names_sorted os db own named finds =
     sym (built_sorted os own) ∙ ap own_names (one_database (built os) db (built_named os) named (λ name. built_finds os name ∙ sym (finds name)))
 
--- ---- the objects of tables
+-- ---- listed objects
 
 index_names : (t : Table) (is : List ListedIndex) → own_names (map (λ (i : ListedIndex). (i.name, AnIndex (as_index t i))) is) ≡ map (λ (i : ListedIndex). i.name) is
 index_names t [] = refl
@@ -183,27 +184,39 @@ names_both : (os ps : List (Name × Object)) → own_names (os ++ ps) ≡ own_na
 names_both [] ps = refl
 names_both (o ∷ os) ps = ap (λ ns. o.0 ∷ ns) (names_both os ps)
 
-behind_names : (tables : List Table) → own_names (flat_map index_objects tables) ≡ flat_map (λ (t : Table). map (λ (i : ListedIndex). i.name) t.indexes) tables
-behind_names [] = refl
-behind_names (t ∷ ts) =
+indexes_names : (tables : List Table) → own_names (flat_map index_objects tables) ≡ flat_map (λ (t : Table). map (λ (i : ListedIndex). i.name) t.indexes) tables
+indexes_names [] = refl
+indexes_names (t ∷ ts) =
     names_both (index_objects t) (flat_map index_objects ts)
     ∙ ap (λ ns. ns ++ own_names (flat_map index_objects ts)) (index_names t t.indexes)
-    ∙ ap (λ ns. map (λ (i : ListedIndex). i.name) t.indexes ++ ns) (behind_names ts)
+    ∙ ap (λ ns. map (λ (i : ListedIndex). i.name) t.indexes ++ ns) (indexes_names ts)
+
+view_names : (views : List View) → own_names (map view_object views) ≡ map (λ (v : View). v.definition.name) views
+view_names [] = refl
+view_names (v ∷ vs) = ap (λ ns. v.definition.name ∷ ns) (view_names vs)
 
 table_names : (rows_at : ℕ → List (ℤ × List Value)) (tables : List Table) → own_names (map (table_object rows_at) tables) ≡ map (λ (t : Table). t.name) tables
 table_names rows_at [] = refl
 table_names rows_at (t ∷ ts) = ap (λ ns. t.name ∷ ns) (table_names rows_at ts)
 
-names_are : (rows_at : ℕ → List (ℤ × List Value)) (tables : List Table) → own_names (objects_of rows_at tables) ≡ names_of tables
-names_are rows_at tables =
-    names_both (map (table_object rows_at) tables) (flat_map index_objects tables)
-    ∙ ap (λ ns. ns ++ own_names (flat_map index_objects tables)) (table_names rows_at tables)
-    ∙ ap (λ ns. map (λ (t : Table). t.name) tables ++ ns) (behind_names tables)
+-- behind the tables: those of views, then those of indexes
+pub behind_names : (l : Listed) → own_names (map view_object l.views ++ flat_map index_objects l.tables)
+    ≡ map (λ (v : View). v.definition.name) l.views ++ flat_map (λ (t : Table). map (λ (i : ListedIndex). i.name) t.indexes) l.tables
+behind_names l =
+    names_both (map view_object l.views) (flat_map index_objects l.tables)
+    ∙ ap (λ ns. ns ++ own_names (flat_map index_objects l.tables)) (view_names l.views)
+    ∙ ap (λ ns. map (λ (v : View). v.definition.name) l.views ++ ns) (indexes_names l.tables)
 
-is_no : (b : Bool) → not b ≡ true → b ≡ false
+names_are : (rows_at : ℕ → List (ℤ × List Value)) (l : Listed) → own_names (objects_of rows_at l) ≡ names_of l
+names_are rows_at l =
+    names_both (map (table_object rows_at) l.tables) (map view_object l.views ++ flat_map index_objects l.tables)
+    ∙ ap (λ ns. ns ++ own_names (map view_object l.views ++ flat_map index_objects l.tables)) (table_names rows_at l.tables)
+    ∙ ap (λ ns. map (λ (t : Table). t.name) l.tables ++ ns) (behind_names l)
+
+pub is_no : (b : Bool) → not b ≡ true → b ≡ false
 is_no true h = absurd (false≢true h)
 is_no false h = refl
 
--- those of tables that are named once have names of their own
-pub objects_apart : (rows_at : ℕ → List (ℤ × List Value)) (tables : List Table) → are_named_once tables ≡ true → HaveOwnNames (objects_of rows_at tables)
-objects_apart rows_at tables once = ap (any_twice is_same_name) (names_are rows_at tables) ∙ is_no (any_twice is_same_name (names_of tables)) once
+-- where each is named once they have names of their own
+pub objects_apart : (rows_at : ℕ → List (ℤ × List Value)) (l : Listed) → are_named_once l ≡ true → HaveOwnNames (objects_of rows_at l)
+objects_apart rows_at l once = ap (any_twice is_same_name) (names_are rows_at l) ∙ is_no (any_twice is_same_name (names_of l)) once

@@ -11,17 +11,12 @@ use Rattle.pages.specs.Map.{PageMap}
 use Rattle.tree_page.specs.Cells.{Pairwise}
 use Rattle.tree_table.specs.Laws.{OneTree}
 use Rattle.tree_table.specs.Tree.{IsTableTree}
-use Rattle.sql_syntax.specs.declared.create.Create.{Create}
 use Rattle.sql_syntax.specs.declared.create.IndexDefinition.{IndexDefinition}
-use Rattle.sql_syntax.specs.declared.create.NewObject.{NewObject}
 use Rattle.sql_syntax.specs.declared.create.NewObject.TheVariants as new
 use Rattle.sql_syntax.specs.declared.create.TableDefinition.{TableDefinition}
-use Rattle.sql_syntax.specs.declared.statement.Statement.{Statement}
-use Rattle.sql_syntax.specs.declared.statement.Statement.TheVariants as statement
-use Rattle.sql_grammar.specs.Texts.{IsStatementText}
 use Rattle.catalog.specs.Database as database
 use Rattle.catalog.specs.Database.{ATable, AnIndex, Database, Name, TableColumn, name_order, object}
-use Rattle.catalog.specs.Listed.{as_column, as_index, key_columns, named_among, own_column, place_within, shape_of, with_rows}
+use Rattle.catalog.specs.Listed.{Listed, as_column, as_index, key_columns, named_among, own_column, place_within, shape_of, with_rows}
 use Rattle.catalog.specs.declared.tables.Column.{Column}
 use Rattle.catalog.specs.declared.tables.Index.{Index}
 use Rattle.catalog.specs.declared.tables.RowShape.{RowShape}
@@ -35,50 +30,19 @@ use Rattle.row_scan.specs.Rows.{IsRow, TableRow}
 use Rattle.row_scan.proofs.HeldRows.{same_rows}
 use Rattle.db_layout.specs.Layout.{HoldsUnder, IsTree, Owner}
 use Rattle.db_layout.specs.Trees.{IsRowsTree}
-use Rattle.db_pages.specs.Schema.{IndexTold, IsCreateOf, IsIndexRow, IsKeyRow, IsTableRow, TableTold, Tells, Told, due_objects, schema_row}
+use Rattle.db_pages.specs.Schema.{IndexTold, IsIndexRow, IsKeyRow, IsTableRow, TableTold, Tells, Told, ViewTold, due_objects, schema_row}
 use Rattle.db_pages.specs.Standing.{StoredOnce}
 use Rattle.db_pages.specs.Stored.{Stores}
 use Rattle.db_pages.proofs.AlikeTold.{AreAlike, HaveAlikeTables, beside, by_rows, each_pair, same_found, table_found}
 use Rattle.db_pages.proofs.KeptObjects.{named_alike}
+use Rattle.db_pages.proofs.OneRow.{OneText, index_definition_is, no_table_is_index, no_text, one_made, root_is, row_name_is, row_table_is, table_is, text_is}
+use Rattle.db_pages.proofs.OneViews.{no_index_beside, no_table_beside, views_alike}
 use Rattle.db_pages.proofs.StandingTexts.{index_is}
 use Rattle.db_pages.proofs.StandingTrees.{IsTreeTold, in_order_told}
 use Rattle.db_pages.proofs.StoredNames.{same_some}
 use Rattle.db_pages.proofs.ToldDues.{told_due}
 use Rattle.db_pages.proofs.ToldObjects.{IsKept, told_finds, told_kept}
 use Rattle.db_pages.proofs.ToldTables.{HaveAlikeDues, IsDueAmong, due_alike, due_named, same_dues}
-
--- a text is one statement at most
-abbrev pub OneText : Type 0
-OneText = (text : List ℕ) (a b : Statement) → IsStatementText text a → IsStatementText text b → a ≡ b
-
--- ---- the parts of a row
-
-root_is : (k l : List ℕ) (n m tn tm : Name) (r s : ℕ) (sql text : Option (List ℕ)) → schema_row k n tn r sql ≡ schema_row l m tm s text → r ≡ s
-root_is k l n m tn tm r s sql text h = cc
-
-row_name_is : (k l : List ℕ) (n m tn tm : Name) (r s : ℕ) (sql text : Option (List ℕ)) → schema_row k n tn r sql ≡ schema_row l m tm s text → n ≡ m
-row_name_is k l n m tn tm r s sql text h = cc
-
-row_table_is : (k l : List ℕ) (n m tn tm : Name) (r s : ℕ) (sql text : Option (List ℕ)) → schema_row k n tn r sql ≡ schema_row l m tm s text → tn ≡ tm
-row_table_is k l n m tn tm r s sql text h = cc
-
-text_is : (k l : List ℕ) (n m tn tm : Name) (r s : ℕ) (sql text : List ℕ) → schema_row k n tn r (Some sql) ≡ schema_row l m tm s (Some text) → sql ≡ text
-text_is k l n m tn tm r s sql text h = cc
-
-no_text : {A : Type 0} (k l : List ℕ) (n m tn tm : Name) (r s : ℕ) (sql : List ℕ) → schema_row k n tn r (Some sql) ≡ schema_row l m tm s None → A
-no_text k l n m tn tm r s sql h = absurd cc
-
-made_is : (c d : Create) → statement.Create c ≡ statement.Create d → c ≡ d
-made_is c d h = cc
-
-table_is : (c d : TableDefinition) → new.Table c ≡ new.Table d → c ≡ d
-table_is c d h = cc
-
-index_definition_is : (c d : IndexDefinition) → new.Index c ≡ new.Index d → c ≡ d
-index_definition_is c d h = cc
-
-no_table_is_index : {A : Type 0} (c : TableDefinition) (d : IndexDefinition) → new.Table c ≡ new.Index d → A
-no_table_is_index c d h = absurd cc
 
 -- ---- columns
 
@@ -111,20 +75,13 @@ abbrev table_with : List Column → Option ℕ → List Term → List TableRow �
 table_with cs own checks rows = record { columns = map as_column cs; rowid_column = own; checks = checks; rows = rows }
 
 module _ (trees : OneTree) (texts : OneText) (values : DetermineValues) where
-  -- one text makes one object
-  one_made : (sql text : List ℕ) (c d : NewObject) → sql ≡ text → IsCreateOf sql c → IsCreateOf text d → c ≡ d
-  one_made sql text c d same one other =
-      ap (λ (made : Create). made.object) (made_is (record { sql = one.sql; object = c }) (record { sql = other.sql; object = d })
-      (texts text (statement.Create (record { sql = one.sql; object = c })) (statement.Create (record { sql = other.sql; object = d }))
-      (subst (λ (z : List ℕ). IsStatementText z (statement.Create (record { sql = one.sql; object = c }))) same one.is) other.is))
-
-  module _ (pages : PageMap) (size : ℕ) (ts us : List Table) (a b : Database) (one : Stores pages size ts a) (other : Stores pages size us b) where
+  module _ (pages : PageMap) (size : ℕ) (l more : Listed) (a b : Database) (one : Stores pages size l a) (other : Stores pages size more b) where
     abbrev count : ℕ
     count = length pages
 
     -- what is told with its tree
     abbrev HasItsTree : (ℕ → List TableRow) → Told → Type 0
-    HasItsTree rows_at told = (owner : Owner) × (IsTreeTold rows_at told owner × IsTree pages size owner)
+    HasItsTree rows_at told = (owner : Owner) × IsTreeTold pages size rows_at told owner
 
     -- ---- two tables of one row
 
@@ -133,7 +90,7 @@ module _ (trees : OneTree) (texts : OneText) (values : DetermineValues) where
       row_is = values row.payload _ _ first.row_is.row_is second.row_is.row_is
 
       one_definition : first.definition ≡ second.definition
-      one_definition = table_is first.definition second.definition (one_made first.sql second.sql (new.Table first.definition) (new.Table second.definition)
+      one_definition = table_is first.definition second.definition (one_made texts first.sql second.sql (new.Table first.definition) (new.Table second.definition)
           (text_is (codes "table") (codes "table") first.row_is.name second.row_is.name first.row_is.table_name second.row_is.table_name t.root u.root first.sql second.sql row_is)
           first.creates.0 second.creates.0)
 
@@ -240,7 +197,7 @@ module _ (trees : OneTree) (texts : OneText) (values : DetermineValues) where
       index_row_is = values row.payload _ _ first.row_is.row_is second.row_is.row_is
 
       one_index : first.definition ≡ second.definition
-      one_index = index_definition_is first.definition second.definition (one_made first.sql second.sql (new.Index first.definition) (new.Index second.definition)
+      one_index = index_definition_is first.definition second.definition (one_made texts first.sql second.sql (new.Index first.definition) (new.Index second.definition)
           (text_is (codes "index") (codes "index") first.row_is.name second.row_is.name first.row_is.table_name second.row_is.table_name i.root j.root first.sql second.sql index_row_is)
           first.creates.0 second.creates.0)
 
@@ -278,7 +235,7 @@ module _ (trees : OneTree) (texts : OneText) (values : DetermineValues) where
 
     apart : {A : Type 0} (t u : Table) (j : Index) (row : Entry) → IsTableRow count t row → Tells count (IndexTold u j) row → A
     apart t u j row first (inl second) =
-        no_table_is_index first.definition second.definition (one_made first.sql second.sql (new.Table first.definition) (new.Index second.definition)
+        no_table_is_index first.definition second.definition (one_made texts first.sql second.sql (new.Table first.definition) (new.Index second.definition)
         (text_is (codes "table") (codes "index") first.row_is.name second.row_is.name first.row_is.table_name second.row_is.table_name t.root j.root first.sql second.sql
         (values row.payload (schema_row (codes "table") first.row_is.name first.row_is.table_name t.root (Some first.sql))
         (schema_row (codes "index") second.row_is.name second.row_is.table_name j.root (Some second.sql)) first.row_is.row_is second.row_is.row_is))
@@ -294,8 +251,13 @@ module _ (trees : OneTree) (texts : OneText) (values : DetermineValues) where
     alike_first (TableTold t) (TableTold u) row first second mine its =
         let alike = tables_alike t u row first second mine its in (alike, (alike.0, one_due t u row first second))
     alike_first (TableTold t) (IndexTold u j) row first second mine its = apart t u j row first second
+    alike_first (TableTold t) (ViewTold w) row first second mine its = no_table_beside texts values row count t w first second
     alike_first (IndexTold t i) (TableTold u) row first second mine its = apart u t i row second first
     alike_first (IndexTold t i) (IndexTold u j) row first second mine its = (index_names t u i j row first second, tt)
+    alike_first (IndexTold t i) (ViewTold w) row first second mine its = no_index_beside texts values row count t i w first second
+    alike_first (ViewTold v) (TableTold u) row first second mine its = no_table_beside texts values row count u v second first
+    alike_first (ViewTold v) (IndexTold u j) row first second mine its = no_index_beside texts values row count u j v second first
+    alike_first (ViewTold v) (ViewTold w) row first second mine its = (views_alike texts values row v w first second one.rows_at other.rows_at, tt)
 
     -- what is known of each in the first and in the second
     abbrev IsKnownHere : Told → Type 0
@@ -308,11 +270,16 @@ module _ (trees : OneTree) (texts : OneText) (values : DetermineValues) where
         → AreAlike one.rows_at other.rows_at x y
     alike_then tables dues (TableTold t) (TableTold u) row first second mine its = tables_alike t u row first second mine.0 its.0
     alike_then tables dues (TableTold t) (IndexTold u j) row first second mine its = apart t u j row first second
+    alike_then tables dues (TableTold t) (ViewTold w) row first second mine its = no_table_beside texts values row count t w first second
     alike_then tables dues (IndexTold t i) (TableTold u) row first second mine its = apart u t i row second first
     alike_then tables dues (IndexTold t i) (IndexTold u j) row (inl first) (inl second) mine its = indexes_alike t u i j row first second tables mine.1 its.1
     alike_then tables dues (IndexTold t i) (IndexTold u j) row (inl first) (inr second) mine its = differ t u i j row first second
     alike_then tables dues (IndexTold t i) (IndexTold u j) row (inr first) (inl second) mine its = differ u t j i row second first
     alike_then tables dues (IndexTold t i) (IndexTold u j) row (inr first) (inr second) mine its = keys_alike t u i j row first second dues mine.2 its.2
+    alike_then tables dues (IndexTold t i) (ViewTold w) row first second mine its = no_index_beside texts values row count t i w first second
+    alike_then tables dues (ViewTold v) (TableTold u) row first second mine its = no_table_beside texts values row count u v second first
+    alike_then tables dues (ViewTold v) (IndexTold u j) row first second mine its = no_index_beside texts values row count u j v second first
+    alike_then tables dues (ViewTold v) (ViewTold w) row first second mine its = views_alike texts values row v w first second one.rows_at other.rows_at
 
     -- the schema table has one list of rows
     one_schema : one.schema ≡ other.schema
@@ -322,12 +289,12 @@ module _ (trees : OneTree) (texts : OneText) (values : DetermineValues) where
     tell_here = subst (Pairwise (Tells count) one.tell.told) one_schema one.tell.each
 
     my_trees : AllByRecursion (HasItsTree one.rows_at) one.tell.told
-    my_trees = (let owners = in_order_told pages size ts a one in
-        beside (λ x o. IsTreeTold one.rows_at x o × IsTree pages size o) one.tell.told owners.0 owners.1)
+    my_trees = (let owners = in_order_told pages size l a one in
+        beside (IsTreeTold pages size one.rows_at) one.tell.told owners.0 owners.1)
 
     its_trees : AllByRecursion (HasItsTree other.rows_at) other.tell.told
-    its_trees = (let owners = in_order_told pages size us b other in
-        beside (λ x o. IsTreeTold other.rows_at x o × IsTree pages size o) other.tell.told owners.0 owners.1)
+    its_trees = (let owners = in_order_told pages size more b other in
+        beside (IsTreeTold pages size other.rows_at) other.tell.told owners.0 owners.1)
 
     -- what each says without the others
     firsts : Pairwise (λ x y. HaveAlikeTables one.rows_at other.rows_at x y × HaveAlikeDues x y) one.tell.told other.tell.told
@@ -337,10 +304,10 @@ module _ (trees : OneTree) (texts : OneText) (values : DetermineValues) where
     -- a table of the one is a table of the other
     same_table : HasSameTables
     same_table d table found =
-        told_finds other.rows_at us b other.of_tables other.tell.told other.tell.all d.table
+        told_finds other.rows_at more b other.of_listed other.tell.told other.tell.all d.table
         ∙ table_found one.rows_at other.rows_at d.table table one.tell.told other.tell.told
         (each_pair (λ x y. HaveAlikeTables one.rows_at other.rows_at x y × HaveAlikeDues x y) (HaveAlikeTables one.rows_at other.rows_at) (λ x y both. both.0) one.tell.told other.tell.told firsts)
-        (sym (told_finds one.rows_at ts a one.of_tables one.tell.told one.tell.all d.table) ∙ found)
+        (sym (told_finds one.rows_at l a one.of_listed one.tell.told one.tell.all d.table) ∙ found)
 
     -- and the keys of one ask for what those of the other ask for
     one_dues : (name : Name) → due_named name one.tell.told ≡ due_named name other.tell.told
@@ -354,14 +321,14 @@ module _ (trees : OneTree) (texts : OneText) (values : DetermineValues) where
     all_alike : Pairwise (AreAlike one.rows_at other.rows_at) one.tell.told other.tell.told
     all_alike = by_rows (Tells count) (Tells count) IsKnownHere IsKnownThere
         (AreAlike one.rows_at other.rows_at) (alike_then same_table one_dues) one.tell.told other.tell.told other.schema tell_here other.tell.each
-        (all_and (HasItsTree one.rows_at) (IsKept one.rows_at a) (IsDueAmong one.tell.told) one.tell.told my_trees (told_kept one.rows_at ts a one.of_tables one.tell.told one.tell.all) (told_due pages size ts a one))
-        (all_and (HasItsTree other.rows_at) (IsKept other.rows_at b) (IsDueAmong other.tell.told) other.tell.told its_trees (told_kept other.rows_at us b other.of_tables other.tell.told other.tell.all) (told_due pages size us b other))
+        (all_and (HasItsTree one.rows_at) (IsKept one.rows_at a) (IsDueAmong one.tell.told) one.tell.told my_trees (told_kept one.rows_at l a one.of_listed one.tell.told one.tell.all) (told_due pages size l a one))
+        (all_and (HasItsTree other.rows_at) (IsKept other.rows_at b) (IsDueAmong other.tell.told) other.tell.told its_trees (told_kept other.rows_at more b other.of_listed other.tell.told other.tell.all) (told_due pages size more b other))
 
     pub same_database : a ≡ b
-    same_database = one_database a b one.of_tables.named other.of_tables.named (λ name.
-        told_finds one.rows_at ts a one.of_tables one.tell.told one.tell.all name
+    same_database = one_database a b one.of_listed.named other.of_listed.named (λ name.
+        told_finds one.rows_at l a one.of_listed one.tell.told one.tell.all name
         ∙ same_found one.rows_at other.rows_at name one.tell.told other.tell.told all_alike
-        ∙ sym (told_finds other.rows_at us b other.of_tables other.tell.told other.tell.all name))
+        ∙ sym (told_finds other.rows_at more b other.of_listed other.tell.told other.tell.all name))
 
 pub stored_once : OneTree → OneText → DetermineValues → StoredOnce
-stored_once trees texts values pages size ts us a b one other = same_database trees texts values pages size ts us a b one other
+stored_once trees texts values pages size l more a b one other = same_database trees texts values pages size l more a b one other

@@ -1,10 +1,10 @@
 -- Pages that store a database stand for it.
-use Rattle.std.proofs.Common.{◌≡◌, ap, ◌∙◌, ℕ, List, length, Some}
+use Rattle.std.proofs.Common.{◌≡◌, ap, ◌∙◌, ℕ, length, Some}
 use Rattle.std.specs.List.{AllByRecursion}
 use Rattle.sqlval.specs.Lists.{sorted}
 use Rattle.pages.specs.Map.{PageMap}
 use Rattle.catalog.specs.Database.{Database, name_order}
-use Rattle.catalog.specs.Listed.{table_named}
+use Rattle.catalog.specs.Listed.{Listed, table_named}
 use Rattle.catalog.specs.declared.tables.Index.{Index}
 use Rattle.catalog.specs.declared.tables.Table.{Table}
 use Rattle.catalog.proofs.NamedDatabases.{listed_in_order}
@@ -20,17 +20,17 @@ use Rattle.db_pages.proofs.StoredApart.{all_both}
 use Rattle.db_pages.proofs.ToldObjects.{IsKept, told_kept, told_names}
 use Rattle.db_pages.proofs.ToldTables.{OfTable, each_of, told_each}
 
-module _ (pages : PageMap) (size : ℕ) (tables : List Table) (db : Database) (stored : Stores pages size tables db) where
+module _ (pages : PageMap) (size : ℕ) (l : Listed) (db : Database) (stored : Stores pages size l db) where
   are_kept : AllByRecursion (IsKept stored.rows_at db) stored.tell.told
-  are_kept = told_kept stored.rows_at tables db stored.of_tables stored.tell.told stored.tell.all
+  are_kept = told_kept stored.rows_at l db stored.of_listed stored.tell.told stored.tell.all
 
   -- the database has what the keys of its tables ask for
   are_due : AllByRecursion (HasDueIn db) stored.tell.told
   are_due =
-      told_each (HasDueIn db) tables stored.tell.told stored.tell.all
-      (all_both HasKeyIndexes (λ (t : Table). table_named t.name tables ≡ Some t) (OfTable (HasDueIn db))
-      (λ t has found. (due_are stored.rows_at tables db stored.of_tables t found has, each_of (λ (i : Index). HasDueIn db (IndexTold t i)) (λ i. tt) t.indexes))
-      tables stored.keys (each_named stored.rows_at tables db stored.of_tables))
+      told_each (HasDueIn db) l stored.tell.told stored.tell.all
+      (all_both HasKeyIndexes (λ (t : Table). table_named t.name l.tables ≡ Some t) (OfTable (HasDueIn db))
+      (λ t has found. (due_are stored.rows_at l db stored.of_listed t found has, each_of (λ (i : Index). HasDueIn db (IndexTold t i)) (λ i. tt) t.indexes))
+      l.tables stored.keys (each_named stored.rows_at l db stored.of_listed)) (λ v. tt)
 
   has_schema : HasSchema supported_language size pages (rows_told (length pages) stored.tell.told stored.schema stored.tell.each) db stored.schema_used
   has_schema = record {
@@ -39,27 +39,27 @@ module _ (pages : PageMap) (size : ℕ) (tables : List Table) (db : Database) (s
     read = rows_read (length pages) stored.tell.told stored.schema stored.tell.each;
     objects = record {
       names = ap (sorted name_order) (rows_named (length pages) stored.tell.told stored.schema stored.tell.each)
-          ∙ told_names stored.rows_at tables db stored.of_tables stored.tell.told stored.tell.all;
+          ∙ told_names stored.rows_at l db stored.of_listed stored.tell.told stored.tell.all;
       each = rows_say stored.rows_at db (length pages) stored.tell.told stored.schema stored.tell.each are_kept are_due;
     };
-    in_order = listed_in_order stored.rows_at tables db stored.of_tables.named stored.of_tables.lists (λ name t found. found_fit stored.rows_at name t tables stored.held stored.each found);
+    in_order = listed_in_order stored.rows_at l db stored.of_listed.named stored.of_listed.lists (λ name t found. found_fit stored.rows_at name t l.tables stored.held stored.each found);
   }
 
   pub stands : IsCounted pages → StandsFor supported_language size pages db
   stands counted =
-      let trees = in_order_told pages size tables db stored in
+      let trees = in_order_told pages size l db stored in
       record {
         header = stored.header;
         rows = rows_told (length pages) stored.tell.told stored.schema stored.tell.each;
         schema_used = stored.schema_used;
         trees_used = useds_of trees.0;
         trunks = stored.shared.has.trunks;
-        headed = is_headed pages size tables db stored counted;
+        headed = is_headed pages size l db stored counted;
         schema = has_schema;
-        trees = told_trees pages size tables db stored stored.tell.told stored.schema trees.0 stored.tell.each are_kept trees.1;
-        freelist = is_freelist pages size tables db stored;
-        shared = is_shared pages size tables db stored trees.0 trees.2;
+        trees = told_trees pages size l db stored stored.tell.told stored.schema trees.0 stored.tell.each are_kept trees.1;
+        freelist = is_freelist pages size l db stored;
+        shared = is_shared pages size l db stored trees.0 trees.2;
       }
 
 pub stand_if_stored : StoredStand
-stand_if_stored pages size tables db stored counted = stands pages size tables db stored counted
+stand_if_stored pages size l db stored counted = stands pages size l db stored counted

@@ -1,4 +1,4 @@
--- The rows of page 1 are the rows of the schema table of the database that the told tables and indexes make.
+-- The rows of page 1 are the rows of the schema table of the database that the told tables, indexes and views make.
 use Rattle.std.proofs.Common.{◌≡◌, ◌∙◌, inl, inr, refl, sym, ap, subst, ℕ, ℤ, List, [], ◌∷◌, map, codes, Some, None}
 use Rattle.std.specs.Prelude.{⊤}
 use Rattle.std.specs.FinMap.Entries.{find}
@@ -8,19 +8,20 @@ use Rattle.sqlval.specs.Lists.{sorted}
 use Rattle.sqlval.specs.Names.{folded}
 use Rattle.sqlval.specs.declared.value.Value.{Value}
 use Rattle.tree_page.specs.Cells.{Pairwise}
-use Rattle.catalog.specs.Database.{ATable, AnIndex, Database, Name, name_order, object}
-use Rattle.catalog.specs.Listed.{as_index, key_columns, with_rows}
+use Rattle.catalog.specs.Database.{ATable, AnIndex, AView, Database, Name, name_order, object}
+use Rattle.catalog.specs.Listed.{as_index, as_view, key_columns, with_rows}
 use Rattle.catalog.specs.declared.tables.Index.{Index}
 use Rattle.catalog.specs.declared.tables.Table.{Table}
+use Rattle.catalog.specs.declared.tables.View.{View}
 use Rattle.catalog.proofs.NamedDatabases.{folded_twice}
 use Rattle.query_names.specs.Schema.{automatic}
 use Rattle.query_names.proofs.CreatedTables.{listed_made}
 use Rattle.db_files.specs.Schema as listed
 use Rattle.db_files.specs.Schema.{IsSchemaEntry, IsSchemaRowOf, SchemaRow, automatic_indexes}
 use Rattle.db_pages.specs.Language.{supported_language}
-use Rattle.db_pages.specs.Schema.{IndexTold, IsIndexRow, IsKeyRow, IsTableRow, TableTold, Tells, Told, due_objects}
+use Rattle.db_pages.specs.Schema.{IndexTold, IsIndexRow, IsKeyRow, IsTableRow, IsViewRow, TableTold, Tells, Told, ViewTold, due_objects}
 use Rattle.db_pages.proofs.SortedObjects.{by_name}
-use Rattle.db_pages.proofs.StandingTexts.{index_is, index_not_refused, not_refused, two_names}
+use Rattle.db_pages.proofs.StandingTexts.{index_is, index_not_refused, not_refused, two_names, view_is, view_not_refused}
 use Rattle.db_pages.proofs.ToldObjects.{IsKept, told_name, told_object}
 
 -- what a row tells, as a row of the schema table
@@ -28,6 +29,7 @@ abbrev pub row_told : (pages : ℕ) (told : Told) (row : Entry) → Tells pages 
 row_told pages (TableTold t) row tells = record { kind = codes "table"; name = tells.row_is.name; table = tells.row_is.table_name; root = t.root; sql = Some tells.sql }
 row_told pages (IndexTold t i) row (inl tells) = record { kind = codes "index"; name = tells.row_is.name; table = tells.row_is.table_name; root = i.root; sql = Some tells.sql }
 row_told pages (IndexTold t i) row (inr tells) = record { kind = codes "index"; name = tells.row_is.name; table = tells.row_is.table_name; root = i.root; sql = None }
+row_told pages (ViewTold v) row tells = record { kind = codes "view"; name = tells.name; table = tells.table_name; root = 0; sql = Some tells.sql }
 
 abbrev pub rows_told : (pages : ℕ) (told : List Told) (rows : List Entry) → Pairwise (Tells pages) told rows → List SchemaRow
 rows_told pages [] rows tell = []
@@ -39,6 +41,7 @@ row_read : (pages : ℕ) (one : Told) (row : Entry) (tells : Tells pages one row
 row_read pages (TableTold t) row tells = tells.row_is.row_is
 row_read pages (IndexTold t i) row (inl tells) = tells.row_is.row_is
 row_read pages (IndexTold t i) row (inr tells) = tells.row_is.row_is
+row_read pages (ViewTold v) row tells = tells.row_is
 
 pub rows_read : (pages : ℕ) (told : List Told) (rows : List Entry) (tell : Pairwise (Tells pages) told rows) → Pairwise IsSchemaEntry rows (rows_told pages told rows tell)
 rows_read pages [] [] tell = tt
@@ -51,6 +54,7 @@ pub name_told : (pages : ℕ) (one : Told) (row : Entry) (tells : Tells pages on
 name_told pages (TableTold t) row tells = tells.row_is.name_is ∙ sym (ap folded tells.makes.name_is)
 name_told pages (IndexTold t i) row (inl tells) = tells.row_is.name_is ∙ sym (ap folded tells.makes.name_is)
 name_told pages (IndexTold t i) row (inr tells) = tells.row_is.name_is
+name_told pages (ViewTold v) row tells = tells.name_is
 
 pub rows_named : (pages : ℕ) (told : List Told) (rows : List Entry) (tell : Pairwise (Tells pages) told rows)
     → map (λ row. folded row.name) (rows_told pages told rows tell) ≡ map (λ one. folded (told_name one)) told
@@ -66,12 +70,14 @@ rows_named pages (one ∷ told) (row ∷ rows) tell =
 abbrev pub HasDueIn : Database → Told → Type 0
 HasDueIn db (TableTold t) = sorted by_name (due_objects t) ≡ automatic_indexes db t.name
 HasDueIn db (IndexTold t i) = ⊤
+HasDueIn db (ViewTold v) = ⊤
 
 module _ (rows_at : ℕ → List (ℤ × List Value)) (db : Database) (pages : ℕ) where
   -- the object of the row's name is what the row tells
   pub object_found : (one : Told) (row : Entry) (tells : Tells pages one row) → IsKept rows_at db one → object db (row_told pages one row tells).name ≡ Some (told_object rows_at one)
   object_found (TableTold t) row tells kept = ap (λ (n : Name). find name_order n db) (name_told pages (TableTold t) row tells) ∙ kept
   object_found (IndexTold t i) row tells kept = ap (λ (n : Name). find name_order n db) (name_told pages (IndexTold t i) row tells) ∙ kept.0
+  object_found (ViewTold v) row tells kept = ap (λ (n : Name). find name_order n db) (name_told pages (ViewTold v) row tells) ∙ kept
 
   -- the row's text makes the table
   table_said : (t : Table) (row : Entry) (tells : IsTableRow pages t row) → HasDueIn db (TableTold t) → listed.IsTableRow supported_language db (row_told pages (TableTold t) row tells) (with_rows t (rows_at t.root))
@@ -127,10 +133,23 @@ module _ (rows_at : ℕ → List (ℤ × List Value)) (db : Database) (pages : �
     on = ap (λ (n : Name). find name_order n db) (folded_twice t.name) ∙ kept.1;
   }
 
+  -- a row with the text of a CREATE VIEW says the view
+  view_said : (v : View) (row : Entry) (tells : IsViewRow v row) → listed.IsViewRow supported_language db (row_told pages (ViewTold v) row tells) (as_view v)
+  view_said v row tells = record {
+    definition = v.definition;
+    kind = refl;
+    text = record { text = tells.sql; sql_is = refl; creates = tells.creates; accepts = view_not_refused db v tells.once tells.free };
+    name = tells.name_is;
+    table = tells.table_name_is;
+    root = refl;
+    made = view_is v tells.once;
+  }
+
   row_says : (one : Told) (row : Entry) (tells : Tells pages one row) → IsKept rows_at db one → HasDueIn db one → IsSchemaRowOf supported_language db (row_told pages one row tells)
   row_says (TableTold t) row tells kept due = record { is = ATable (with_rows t (rows_at t.root)); found = object_found (TableTold t) row tells kept; says = table_said t row tells due }
   row_says (IndexTold t i) row (inl tells) kept due = record { is = AnIndex (as_index t i); found = object_found (IndexTold t i) row (inl tells) kept; says = inl (index_said t i row tells kept) }
   row_says (IndexTold t i) row (inr tells) kept due = record { is = AnIndex (as_index t i); found = object_found (IndexTold t i) row (inr tells) kept; says = inr (key_said t i row tells kept) }
+  row_says (ViewTold v) row tells kept due = record { is = AView (as_view v); found = object_found (ViewTold v) row tells kept; says = view_said v row tells }
 
   pub rows_say : (told : List Told) (rows : List Entry) (tell : Pairwise (Tells pages) told rows) → AllByRecursion (IsKept rows_at db) told → AllByRecursion (HasDueIn db) told
       → AllByRecursion (IsSchemaRowOf supported_language db) (rows_told pages told rows tell)

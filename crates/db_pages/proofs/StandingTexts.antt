@@ -1,4 +1,4 @@
--- What the CREATE of a listed table or index makes, and that nothing refuses it beside the other objects.
+-- What the CREATE of a listed table, index or view makes, and that nothing refuses it beside the other objects.
 use Rattle.std.proofs.Common.{◌≡◌, ◌∙◌, refl, sym, ap, ℕ, ℤ, Bool, true, false, cond, List, [], ◌∷◌, map, Option, Some, None}
 use Rattle.std.specs.Prelude.{is_some, not}
 use Rattle.std.specs.FinMap.Entries.{find}
@@ -13,12 +13,13 @@ use Rattle.sqlval.specs.declared.value.Value.{Value}
 use Rattle.sql_syntax.specs.declared.create.IndexDefinition.{IndexDefinition}
 use Rattle.sql_syntax.specs.declared.create.TableDefinition.{TableDefinition}
 use Rattle.catalog.specs.Database as database
-use Rattle.catalog.specs.Database.{ATable, AnIndex, Database, Name, Object, name_order, object, with_object}
-use Rattle.catalog.specs.Listed.{is_reserved, as_index, with_rows}
+use Rattle.catalog.specs.Database.{ATable, AnIndex, AView, Database, Name, Object, name_order, object, with_object}
+use Rattle.catalog.specs.Listed.{is_reserved, as_index, as_view, names_listed, with_rows}
 use Rattle.catalog.specs.declared.tables.Index.{Index}
 use Rattle.catalog.specs.declared.tables.Table.{Table}
+use Rattle.catalog.specs.declared.tables.View.{View}
 use Rattle.query_names.specs.Checked.{Checked, Meant, also, faults, good, known_map, ◌and_then◌, unless}
-use Rattle.query_names.specs.Schema.{automatic, create_index, create_table, index_made, with_objects}
+use Rattle.query_names.specs.Schema.{automatic, create_index, create_table, create_view, index_made, view_made, with_objects}
 use Rattle.query_names.specs.Scopes.{is_doubled}
 use Rattle.query_names.specs.Tables.{table_made}
 use Rattle.query_names.proofs.ColumnNames.{folded_twice}
@@ -129,3 +130,18 @@ two_names db a b i t index table = by_test (is_same_name a b) refl
     by_test : (same : Bool) → is_same_name a b ≡ same → same ≡ false
     by_test true is = absurd (other_object (sym index ∙ ap (λ n. find name_order n db) (named_same a b is) ∙ table))
     by_test false is = refl
+
+-- ---- a view
+
+-- its CREATE makes the view, where no name is listed twice
+pub view_is : (v : View) → is_doubled (names_listed v.definition) ≡ false → view_made v.definition ≡ good (AView (as_view v))
+view_is v once = unless_false (is_doubled (names_listed v.definition)) Misuse (good (AView (as_view v))) once
+
+-- a definition whose name isn't reserved is refused by nothing there
+pub view_not_refused : (db : Database) (v : View) → is_doubled (names_listed v.definition) ≡ false → is_reserved v.definition.name ≡ false
+    → faults (create_view (others db v.definition.name) v.definition) ≡ []
+view_not_refused db v once free =
+    let name = v.definition.name in
+    ap faults (
+    ap (λ k. unless (is_reserved name) Misuse (unless (is_some (object (others db name) name)) Exists (known_map (with_object (others db name) name) k))) (view_is v once)
+    ∙ is_added (λ after. after) (others db name) name (AView (as_view v)) (is_reserved name) (object (others db name) name) free (none_other db name))

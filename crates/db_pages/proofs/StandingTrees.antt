@@ -17,25 +17,26 @@ use Rattle.sqlval.specs.declared.fault.Fault.{Fault}
 use Rattle.tree_page.specs.Cells.{Pairwise}
 use Rattle.tree_table.specs.Tree.{IsTableTree}
 use Rattle.tree_index.specs.Tree.{IsIndexTree}
-use Rattle.catalog.specs.Database.{ATable, AnIndex, Database, Name, name_order, object}
-use Rattle.catalog.specs.Listed.{is_table, as_index, shape_of, with_rows, table_named}
+use Rattle.catalog.specs.Database.{ATable, AnIndex, AView, Database, Name, name_order, object}
+use Rattle.catalog.specs.Listed.{Listed, is_table, as_index, as_view, shape_of, with_rows, table_named}
 use Rattle.catalog.specs.Rows.{are_rows}
 use Rattle.catalog.specs.declared.tables.Index.{Index}
 use Rattle.catalog.specs.declared.tables.Table.{Table}
+use Rattle.catalog.specs.declared.tables.View.{View}
 use Rattle.catalog.proofs.NamedDatabases.{folded_twice}
 use Rattle.index_entries.specs.Entries.{collations, entries_of_rows}
 use Rattle.row_scan.specs.Rows.{IsRow, TableRow}
 use Rattle.db_files.specs.Contents.{HasTree, IsStoredRow, ListsEntries, ListsRows}
 use Rattle.db_files.specs.Stands.{IsHeaded, IsShared}
-use Rattle.db_layout.specs.Layout.{IsTree, HoldsUnder, Owner, used_by}
+use Rattle.db_layout.specs.Layout.{IsTree, HoldsUnder, OfRows, Owner, used_by}
 use Rattle.db_layout.specs.Trees.{IsEntriesTree, IsRowsTree, columns_of}
 use Rattle.db_pages.specs.Reordering.{AreReordered}
-use Rattle.db_pages.specs.Schema.{IndexTold, TableTold, Tells, Told, all_told}
+use Rattle.db_pages.specs.Schema.{IndexTold, TableTold, Tells, Told, ViewTold, all_told, tables_told}
 use Rattle.db_pages.specs.Stored.{AreHeld, IsCounted, Stores, all_trees}
 use Rattle.db_pages.proofs.Reordering.{reordered_sym}
 use Rattle.db_pages.proofs.ReorderedPairs.{pairs_both, reordered_count, reordered_pairs}
 use Rattle.db_pages.proofs.StandingRows.{object_found, row_told, rows_told}
-use Rattle.db_pages.proofs.ToldObjects.{IsKept}
+use Rattle.db_pages.proofs.ToldObjects.{IsKept, all_first, all_second}
 
 -- ---- a page's header
 
@@ -83,37 +84,61 @@ fresh_there count n first last = grind (arith, common_steps)
 
 -- ---- the tree of what is told
 
--- the tree of a table's rows, or of an index's entries
-abbrev pub IsTreeTold : (ℕ → List TableRow) → Told → Owner → Type 0
-IsTreeTold rows_at (TableTold t) owner = IsRowsTree t (rows_at t.root) owner
-IsTreeTold rows_at (IndexTold t i) owner = IsEntriesTree (rows_at t.root) i owner
+-- what a view has where a table has its tree: no page
+abbrev pub no_tree : View → Owner
+no_tree v = record { root = 0; content = OfRows []; used = [] }
 
-index_trees : (rows_at : ℕ → List TableRow) (t : Table) (is : List Index) (owners : List Owner) → Pairwise (IsEntriesTree (rows_at t.root)) is owners
-    → Pairwise (IsTreeTold rows_at) (map (λ (i : Index). IndexTold t i) is) owners
-index_trees rows_at t [] [] each = tt
-index_trees rows_at t [] (o ∷ owners) each = absurd each
-index_trees rows_at t (i ∷ is) [] each = absurd each
-index_trees rows_at t (i ∷ is) (o ∷ owners) each = (each.0, index_trees rows_at t is owners each.1)
+-- the trees of tables and of their indexes, and then the views, which have none
+abbrev pub trees_with : List (List Owner) → List View → List Owner
+trees_with held views = all_trees held ++ map no_tree views
 
--- of all tables and indexes, in their order
-pub trees_told : (rows_at : ℕ → List TableRow) (tables : List Table) (held : List (List Owner)) → Pairwise (AreHeld rows_at) tables held
-    → Pairwise (IsTreeTold rows_at) (all_told tables) (all_trees held)
-trees_told rows_at [] [] each = tt
-trees_told rows_at [] (trees ∷ held) each = absurd each
-trees_told rows_at (t ∷ tables) [] each = absurd each
-trees_told rows_at (t ∷ tables) ([] ∷ held) each = absurd each.0.are
-trees_told rows_at (t ∷ tables) ((o ∷ owners) ∷ held) each =
-    let mine : Pairwise (IsTreeTold rows_at) (map (λ (i : Index). IndexTold t i) t.indexes) owners = index_trees rows_at t t.indexes owners each.0.are.1 in (
-      each.0.are.0,
-      pairs_both (IsTreeTold rows_at) (map (λ (i : Index). IndexTold t i) t.indexes) (all_told tables) owners (all_trees held) mine (trees_told rows_at tables held each.1),
-    )
+no_pages : (views : List View) → used_by (map no_tree views) ≡ []
+no_pages [] = refl
+no_pages (v ∷ views) = no_pages views
 
--- what holds of each pair and of each of the second list
-pub pairs_and : {A B : Type 0} (P : A → B → Type 0) (Q : B → Type 0) (xs : List A) (ys : List B) → Pairwise P xs ys → AllByRecursion Q ys → Pairwise (λ x y. P x y × Q y) xs ys
-pairs_and P Q [] [] each all = tt
-pairs_and P Q [] (y ∷ ys) each all = absurd each
-pairs_and P Q (x ∷ xs) [] each all = absurd each
-pairs_and P Q (x ∷ xs) (y ∷ ys) each all = ((each.0, all.0), pairs_and P Q xs ys each.1 all.1)
+-- views take no page
+used_with : (owners : List Owner) (views : List View) → used_by (owners ++ map no_tree views) ≡ used_by owners
+used_with [] views = no_pages views
+used_with (o ∷ owners) views = ap (λ (ns : List ℕ). o.used ++ ns) (used_with owners views)
+
+module _ (pages : PageMap) (size : ℕ) (rows_at : ℕ → List TableRow) where
+  -- the tree of a table's rows, or of an index's entries, is on the pages; a view has none
+  abbrev pub IsTreeTold : Told → Owner → Type 0
+  IsTreeTold (TableTold t) owner = IsRowsTree t (rows_at t.root) owner × IsTree pages size owner
+  IsTreeTold (IndexTold t i) owner = IsEntriesTree (rows_at t.root) i owner × IsTree pages size owner
+  IsTreeTold (ViewTold v) owner = owner.used ≡ []
+
+  index_trees : (t : Table) (is : List Index) (owners : List Owner) → Pairwise (IsEntriesTree (rows_at t.root)) is owners → AllByRecursion (IsTree pages size) owners
+      → Pairwise IsTreeTold (map (λ (i : Index). IndexTold t i) is) owners
+  index_trees t [] [] each trees = tt
+  index_trees t [] (o ∷ owners) each trees = absurd each
+  index_trees t (i ∷ is) [] each trees = absurd each
+  index_trees t (i ∷ is) (o ∷ owners) each trees = ((each.0, trees.0), index_trees t is owners each.1 trees.1)
+
+  -- of all tables and indexes, in their order
+  tables_trees : (tables : List Table) (held : List (List Owner)) → Pairwise (AreHeld rows_at) tables held → AllByRecursion (IsTree pages size) (all_trees held)
+      → Pairwise IsTreeTold (tables_told tables) (all_trees held)
+  tables_trees [] [] each trees = tt
+  tables_trees [] (os ∷ held) each trees = absurd each
+  tables_trees (t ∷ tables) [] each trees = absurd each
+  tables_trees (t ∷ tables) ([] ∷ held) each trees = absurd each.0.are
+  tables_trees (t ∷ tables) ((o ∷ owners) ∷ held) each trees =
+      let mine : Pairwise IsTreeTold (map (λ (i : Index). IndexTold t i) t.indexes) owners =
+      index_trees t t.indexes owners each.0.are.1 (all_first (IsTree pages size) owners (all_trees held) trees.1) in (
+        (each.0.are.0, trees.0),
+        pairs_both IsTreeTold (map (λ (i : Index). IndexTold t i) t.indexes) (tables_told tables) owners (all_trees held) mine
+            (tables_trees tables held each.1 (all_second (IsTree pages size) owners (all_trees held) trees.1)),
+      )
+
+  views_trees : (views : List View) → Pairwise IsTreeTold (map ViewTold views) (map no_tree views)
+  views_trees [] = tt
+  views_trees (v ∷ views) = (refl, views_trees views)
+
+  -- of all that is told
+  trees_told : (l : Listed) (held : List (List Owner)) → Pairwise (AreHeld rows_at) l.tables held → AllByRecursion (IsTree pages size) (all_trees held)
+      → Pairwise IsTreeTold (all_told l) (trees_with held l.views)
+  trees_told l held each trees =
+      pairs_both IsTreeTold (tables_told l.tables) (map ViewTold l.views) (all_trees held) (map no_tree l.views) (tables_trees l.tables held each trees) (views_trees l.views)
 
 -- the rows of a listed table are such as it may hold
 pub found_fit : (rows_at : ℕ → List TableRow) (name : Name) (t : Table) (tables : List Table) (held : List (List Owner)) → Pairwise (AreHeld rows_at) tables held
@@ -132,7 +157,7 @@ found_fit rows_at name t (u ∷ tables) (trees ∷ held) each found = by_test (f
 
 -- ---- the parts of the file
 
-module _ (pages : PageMap) (size : ℕ) (tables : List Table) (db : Database) (stored : Stores pages size tables db) where
+module _ (pages : PageMap) (size : ℕ) (l : Listed) (db : Database) (stored : Stores pages size l db) where
   pub is_headed : IsCounted pages → IsHeaded size pages stored.header
   is_headed counted = record {
     header_is = stored.header_is;
@@ -160,7 +185,7 @@ module _ (pages : PageMap) (size : ℕ) (tables : List Table) (db : Database) (s
         (subst (HoldsUnder pages size o.root o.used) is.content_is tree);
   }
 
-  told_tree : (one : Told) (row : Entry) (o : Owner) (tells : Tells (length pages) one row) → IsKept stored.rows_at db one → IsTreeTold stored.rows_at one o × IsTree pages size o
+  told_tree : (one : Told) (row : Entry) (o : Owner) (tells : Tells (length pages) one row) → IsKept stored.rows_at db one → IsTreeTold pages size stored.rows_at one o
       → HasTree pages size db (row_told (length pages) one row tells) o.used
   told_tree (TableTold t) row o tells kept tree = record {
     is = ATable (with_rows t (stored.rows_at t.root));
@@ -177,9 +202,14 @@ module _ (pages : PageMap) (size : ℕ) (tables : List Table) (db : Database) (s
     found = object_found stored.rows_at db (length pages) (IndexTold t i) row (inr tells) kept;
     lists = index_entries t i o tree.0 tree.1 kept.1;
   }
+  told_tree (ViewTold v) row o tells kept none = record {
+    is = AView (as_view v);
+    found = object_found stored.rows_at db (length pages) (ViewTold v) row tells kept;
+    lists = none;
+  }
 
   pub told_trees : (told : List Told) (rows : List Entry) (owners : List Owner) (tell : Pairwise (Tells (length pages)) told rows) → AllByRecursion (IsKept stored.rows_at db) told
-      → Pairwise (λ one o. IsTreeTold stored.rows_at one o × IsTree pages size o) told owners → Pairwise (HasTree pages size db) (rows_told (length pages) told rows tell) (useds_of owners)
+      → Pairwise (IsTreeTold pages size stored.rows_at) told owners → Pairwise (HasTree pages size db) (rows_told (length pages) told rows tell) (useds_of owners)
   told_trees [] rows [] tell kept trees = tt
   told_trees [] rows (o ∷ owners) tell kept trees = absurd trees
   told_trees (one ∷ told) [] owners tell kept trees = absurd tell
@@ -187,26 +217,26 @@ module _ (pages : PageMap) (size : ℕ) (tables : List Table) (db : Database) (s
   told_trees (one ∷ told) (row ∷ rows) (o ∷ owners) tell kept trees = (told_tree one row o tell.0 kept.0 trees.0, told_trees told rows owners tell.1 kept.1 trees.1)
 
   -- the trees in the order of the rows that tell them
-  pub in_order_told : (owners : List Owner) × Pairwise (λ one o. IsTreeTold stored.rows_at one o × IsTree pages size o) stored.tell.told owners × AreReordered (all_trees stored.held) owners
+  pub in_order_told : (owners : List Owner) × Pairwise (IsTreeTold pages size stored.rows_at) stored.tell.told owners × AreReordered (trees_with stored.held l.views) owners
   in_order_told =
-      reordered_pairs (λ one o. IsTreeTold stored.rows_at one o × IsTree pages size o) (all_told tables) (all_trees stored.held) stored.tell.told
-      (pairs_and (IsTreeTold stored.rows_at) (IsTree pages size) (all_told tables) (all_trees stored.held) (trees_told stored.rows_at tables stored.held stored.each) stored.shared.trees.1)
-      (reordered_sym stored.tell.told (all_told tables) stored.tell.all)
+      reordered_pairs (IsTreeTold pages size stored.rows_at) (all_told l) (trees_with stored.held l.views) stored.tell.told
+      (trees_told pages size stored.rows_at l stored.held stored.each stored.shared.trees.1) (reordered_sym stored.tell.told (all_told l) stored.tell.all)
 
   pub is_freelist : IsFreelist pages size stored.header.freelist_trunk stored.header.freelist_count stored.shared.has.trunks
   is_freelist = subst (λ (h : Header). IsFreelist pages size h.freelist_trunk h.freelist_count stored.shared.has.trunks)
       (one_header (page_at pages 1) stored.shared.has.header stored.header stored.shared.has.header_is stored.header_is) stored.shared.has.listed
 
   -- each page is used once
-  pub is_shared : (owners : List Owner) → AreReordered (all_trees stored.held) owners → IsShared pages (stored.schema_used ++ (flat_map (λ used. used) (useds_of owners) ++ pages_of stored.shared.has.trunks))
+  pub is_shared : (owners : List Owner) → AreReordered (trees_with stored.held l.views) owners → IsShared pages (stored.schema_used ++ (flat_map (λ used. used) (useds_of owners) ++ pages_of stored.shared.has.trunks))
   is_shared owners same = record {
     once = λ n has. (let all = occurs_append n stored.schema_used (flat_map (λ used. used) (useds_of owners) ++ pages_of stored.shared.has.trunks) in
         let rest = occurs_append n (flat_map (λ used. used) (useds_of owners)) (pages_of stored.shared.has.trunks) in
         let trees = ap (occurs n) (used_flat owners) in
-        let moved = reordered_count n (λ (o : Owner). o.used) (all_trees stored.held) owners same in
+        let moved = reordered_count n (λ (o : Owner). o.used) (trees_with stored.held l.views) owners same in
+        let no_more = ap (occurs n) (used_with (all_trees stored.held) l.views) in
         let both = occurs_append n stored.schema_used (used_by (all_trees stored.held)) in
         let free = stored.shared.has.free_is n in
         let once = stored.shared.once n in
         let one = fresh_there (length pages) n has.first has.last in
-        omega (arith, all, rest, trees, moved, both, free, once, one));
+        omega (arith, all, rest, trees, moved, no_more, both, free, once, one));
   }

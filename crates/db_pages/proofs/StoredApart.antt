@@ -1,5 +1,5 @@
--- Tables and indexes of different names, whose trees begin at different pages: those of each kind, and what is found under a root.
-use Rattle.std.proofs.Common.{◌≡◌, ◌≤◌, ◌+◌, ◌==◌, refl, sym, ap, subst, ◌∙◌, ℕ, Bool, true, false, cond, List, [], ◌∷◌, ◌++◌, map, arith}
+-- Tables, indexes and views of different names, where no two trees begin at one page: those of each kind, and what is found under a root.
+use Rattle.std.proofs.Common.{◌≡◌, ◌≤◌, ◌+◌, ◌==◌, refl, sym, ap, subst, ◌∙◌, append_assoc, ℕ, Bool, true, false, cond, List, [], ◌∷◌, ◌++◌, map, arith}
 use Rattle.std.proofs.lemmas.Bool.{false≢true}
 use Rattle.std.proofs.lemmas.Bool.Decides.{nat_tests}
 use Rattle.std.specs.List.{AllByRecursion}
@@ -14,7 +14,9 @@ use Rattle.row_scan.specs.Rows.{TableRow}
 use Rattle.db_pages.specs.Reordering.{AreReordered}
 use Rattle.db_pages.proofs.StoredShares.{AllApart}
 use Rattle.db_pages.proofs.StoredNames.{named_same}
-use Rattle.db_pages.proofs.StoredListings.{IndexItem, IndexListing, IsIndexListing, IsItem, IsListing, Item, Listing, TableItem, either, owner_of, row_of, rows_in}
+use Rattle.db_pages.proofs.Reordering.{reordered_is}
+use Rattle.db_pages.proofs.StoredListings.{IndexItem, IndexListing, IsIndexListing, IsItem, IsListing, Item, Listing, TableItem, ViewItem, by_kind, index_tree, listed_tree, owners_in, row_of, rows_in}
+use Rattle.db_pages.proofs.StoredViews.{ViewListing}
 
 -- ---- what holds of each
 
@@ -55,40 +57,73 @@ pub from_names : (P : Name → Type 0) (items : List Item) → AllByRecursion P 
 from_names P [] h = tt
 from_names P (item ∷ items) h = (h.0, from_names P items h.1)
 
--- ---- tables and indexes
+-- ---- tables, indexes and views
 
 abbrev pub tables_among : List Item → List Listing
 tables_among [] = []
 tables_among (TableItem l ∷ items) = l ∷ tables_among items
 tables_among (IndexItem l ∷ items) = tables_among items
+tables_among (ViewItem l ∷ items) = tables_among items
 
 abbrev pub indexes_among : List Item → List IndexListing
 indexes_among [] = []
 indexes_among (TableItem l ∷ items) = indexes_among items
 indexes_among (IndexItem l ∷ items) = l ∷ indexes_among items
+indexes_among (ViewItem l ∷ items) = indexes_among items
+
+abbrev pub views_among : List Item → List ViewListing
+views_among [] = []
+views_among (TableItem l ∷ items) = views_among items
+views_among (IndexItem l ∷ items) = views_among items
+views_among (ViewItem l ∷ items) = l ∷ views_among items
 
 pub of_tables : (P : Item → Type 0) (items : List Item) → AllByRecursion P items → AllByRecursion (λ l. P (TableItem l)) (tables_among items)
 of_tables P [] all = tt
 of_tables P (TableItem l ∷ items) all = (all.0, of_tables P items all.1)
 of_tables P (IndexItem l ∷ items) all = of_tables P items all.1
+of_tables P (ViewItem l ∷ items) all = of_tables P items all.1
 
 pub of_indexes : (P : Item → Type 0) (items : List Item) → AllByRecursion P items → AllByRecursion (λ l. P (IndexItem l)) (indexes_among items)
 of_indexes P [] all = tt
 of_indexes P (TableItem l ∷ items) all = of_indexes P items all.1
 of_indexes P (IndexItem l ∷ items) all = (all.0, of_indexes P items all.1)
+of_indexes P (ViewItem l ∷ items) all = of_indexes P items all.1
+
+pub of_views : (P : Item → Type 0) (items : List Item) → AllByRecursion P items → AllByRecursion (λ l. P (ViewItem l)) (views_among items)
+of_views P [] all = tt
+of_views P (TableItem l ∷ items) all = of_views P items all.1
+of_views P (IndexItem l ∷ items) all = of_views P items all.1
+of_views P (ViewItem l ∷ items) all = (all.0, of_views P items all.1)
 
 pub of_items : (P : Item → Type 0) (items : List Item) → AllByRecursion (λ l. P (TableItem l)) (tables_among items) → AllByRecursion (λ l. P (IndexItem l)) (indexes_among items)
-    → AllByRecursion P items
-of_items P [] tables indexes = tt
-of_items P (TableItem l ∷ items) tables indexes = (tables.0, of_items P items tables.1 indexes)
-of_items P (IndexItem l ∷ items) tables indexes = (indexes.0, of_items P items tables indexes.1)
+    → AllByRecursion (λ l. P (ViewItem l)) (views_among items) → AllByRecursion P items
+of_items P [] tables indexes views = tt
+of_items P (TableItem l ∷ items) tables indexes views = (tables.0, of_items P items tables.1 indexes views)
+of_items P (IndexItem l ∷ items) tables indexes views = (indexes.0, of_items P items tables indexes.1 views)
+of_items P (ViewItem l ∷ items) tables indexes views = (views.0, of_items P items tables indexes views.1)
 
--- all items are the tables and the indexes, in another order
-pub split_items : {X : Type 0} (f : Listing → X) (g : IndexListing → X) (items : List Item)
-    → AreReordered (map (either f g) items) (flat_map (λ l. f l ∷ []) (tables_among items) ++ map g (indexes_among items))
-split_items f g [] = refl
-split_items f g (TableItem l ∷ items) = ([], flat_map (λ l. f l ∷ []) (tables_among items) ++ map g (indexes_among items), refl, split_items f g items)
-split_items f g (IndexItem l ∷ items) = (flat_map (λ l. f l ∷ []) (tables_among items), map g (indexes_among items), refl, split_items f g items)
+-- all items are the tables and the indexes, and then the views, in another order
+pub split_items : {X : Type 0} (f : Listing → X) (g : IndexListing → X) (h : ViewListing → X) (items : List Item)
+    → AreReordered (map (by_kind f g h) items) ((flat_map (λ l. f l ∷ []) (tables_among items) ++ map g (indexes_among items)) ++ map h (views_among items))
+split_items f g h [] = refl
+split_items f g h (TableItem l ∷ items) = ([], (flat_map (λ l. f l ∷ []) (tables_among items) ++ map g (indexes_among items)) ++ map h (views_among items), refl, split_items f g h items)
+split_items f g h (IndexItem l ∷ items) =
+    let tables = flat_map (λ (l : Listing). f l ∷ []) (tables_among items) in
+    let indexes = map g (indexes_among items) in
+    let views = map h (views_among items) in (
+      tables,
+      indexes ++ views,
+      append_assoc tables (g l ∷ indexes) views,
+      reordered_is (map (by_kind f g h) items) ((tables ++ indexes) ++ views) (tables ++ (indexes ++ views)) (append_assoc tables indexes views) (split_items f g h items),
+    )
+split_items f g h (ViewItem l ∷ items) = (flat_map (λ l. f l ∷ []) (tables_among items) ++ map g (indexes_among items), map h (views_among items), refl, split_items f g h items)
+
+-- and all trees are those of tables and those of indexes
+pub split_trees : (items : List Item) → AreReordered (owners_in items) (flat_map (λ l. listed_tree l ∷ []) (tables_among items) ++ map index_tree (indexes_among items))
+split_trees [] = refl
+split_trees (TableItem l ∷ items) = ([], flat_map (λ l. listed_tree l ∷ []) (tables_among items) ++ map index_tree (indexes_among items), refl, split_trees items)
+split_trees (IndexItem l ∷ items) = (flat_map (λ l. listed_tree l ∷ []) (tables_among items), map index_tree (indexes_among items), refl, split_trees items)
+split_trees (ViewItem l ∷ items) = split_trees items
 
 -- ---- different names
 
@@ -113,6 +148,7 @@ module _ (pages : PageMap) (size : ℕ) (db : Database) where
     names_apart items each.1 apart.1,
   )
   names_apart (IndexItem l ∷ items) each apart = names_apart items each.1 apart.1
+  names_apart (ViewItem l ∷ items) each apart = names_apart items each.1 apart.1
 
 pub other_name : (a b : Name) → (folded a ≡ folded b → ⊥) → is_same_name a b ≡ false
 other_name a b other = by_test (is_same_name a b) refl
@@ -123,12 +159,9 @@ other_name a b other = by_test (is_same_name a b) refl
 
 -- ---- different roots
 
-abbrev pub root_of : Item → ℕ
-root_of item = (owner_of item).root
-
 -- the pages where their trees begin
 abbrev pub roots_in : List Item → List ℕ
-roots_in items = map root_of items
+roots_in items = map (λ owner. owner.root) (owners_in items)
 
 abbrev pub table_roots : List Listing → List ℕ
 table_roots tables = map (λ l. l.table.root) tables
@@ -174,6 +207,7 @@ pub fewer_roots : (n : ℕ) (items : List Item) → occurs n (table_roots (table
 fewer_roots n [] = omega arith
 fewer_roots n (TableItem l ∷ items) = let rest = fewer_roots n items in omega (arith, rest)
 fewer_roots n (IndexItem l ∷ items) = let rest = fewer_roots n items in let fewer = fewer_after n l.index.root (roots_in items) in omega (arith, rest, fewer)
+fewer_roots n (ViewItem l ∷ items) = fewer_roots n items
 
 -- what the first table of this root has
 abbrev pub at_root : {A : Type 0} → (Listing → A) → A → List Listing → ℕ → A

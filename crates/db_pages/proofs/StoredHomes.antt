@@ -7,13 +7,14 @@ use Rattle.std.specs.Prelude.{⊤}
 use Rattle.sqlval.specs.Names.{folded, is_same_name}
 use Rattle.pages.specs.Map.{PageMap}
 use Rattle.catalog.specs.Database as database
-use Rattle.catalog.specs.Database.{Name, Database, Object, ATable, AnIndex, name_order, object}
-use Rattle.catalog.specs.Listed.{table_named}
+use Rattle.catalog.specs.Database.{Name, Database, Object, ATable, AnIndex, AView, name_order, object}
+use Rattle.catalog.specs.Listed.{Listed, as_view, table_named}
 use Rattle.catalog.specs.declared.tables.Table.{Table}
+use Rattle.catalog.specs.declared.tables.View.{View}
 use Rattle.db_pages.proofs.StoredShares.{GoesWithOne, theirs}
 use Rattle.db_pages.proofs.StoredNames.{Misses, named_same, same_named, same_some, some_is_none}
-use Rattle.db_pages.proofs.StoredListings.{IndexItem, IndexListing, IsIndexListing, IsItem, IsListing, Item, Listing, TableItem, index_there, row_of, rows_in}
-use Rattle.db_pages.proofs.StoredApart.{NamesApart, all_both, all_so, indexes_among, of_indexes, of_items, of_tables, onto_names, other_name, row_names, row_named, tables_among}
+use Rattle.db_pages.proofs.StoredListings.{IndexItem, IndexListing, IsIndexListing, IsItem, IsListing, IsViewListing, Item, Listing, TableItem, ViewItem, index_there, row_of, rows_in}
+use Rattle.db_pages.proofs.StoredApart.{NamesApart, all_both, all_so, indexes_among, of_indexes, of_items, of_tables, of_views, onto_names, other_name, row_names, row_named, tables_among, views_among}
 
 -- the index is on the table
 abbrev pub is_on : Listing → IndexListing → Bool
@@ -26,6 +27,14 @@ with_indexes indexes l = record l.table { indexes = map (λ i. i.index) (theirs 
 -- the tables of the items, each with its indexes
 abbrev pub tables_in : List Item → List Table
 tables_in items = map (with_indexes (indexes_among items)) (tables_among items)
+
+-- and the views
+abbrev pub views_in : List Item → List View
+views_in items = map (λ l. l.view) (views_among items)
+
+-- all that the items tell
+abbrev pub all_listed : List Item → Listed
+all_listed items = record { tables = tables_in items; views = views_in items }
 
 -- what holds of all indexes on a table
 pub all_theirs : (P : IndexListing → Type 0) (l : Listing) (indexes : List IndexListing) → AllByRecursion (λ i. is_on l i ≡ true → P i) indexes → AllByRecursion P (theirs is_on indexes l)
@@ -100,6 +109,9 @@ module _ (indexes : List IndexListing) where
 table_is_index : {B : Type 0} (t : database.Table) (i : database.Index) → Some (ATable t) ≡ Some (AnIndex i) → B
 table_is_index t i e = absurd cc
 
+table_is_view : {B : Type 0} (t : database.Table) (v : database.View) → Some (ATable t) ≡ Some (AView v) → B
+table_is_view t v e = absurd cc
+
 -- its table is one of them
 pub record IsHome (items : List Item) (i : IndexListing) : Type 0 where
   pub t : Table
@@ -109,6 +121,7 @@ pub record IsHome (items : List Item) (i : IndexListing) : Type 0 where
 abbrev pub HasHome : List Item → Item → Type 0
 HasHome items (TableItem l) = ⊤
 HasHome items (IndexItem i) = IsHome items i
+HasHome items (ViewItem l) = ⊤
 
 module _ (pages : PageMap) (size : ℕ) (db : Database) (items : List Item) (each : AllByRecursion (IsItem pages size db) items)
     (missed : (q : Name) → Misses q (row_names (rows_in items)) → find name_order q db ≡ None) where
@@ -122,7 +135,10 @@ module _ (pages : PageMap) (size : ℕ) (db : Database) (items : List Item) (eac
       (none_named (indexes_among items) (tables_among items) name none))
       (all_so (IsIndexListing pages size db) (λ l. folded name ≡ folded l.row.name → ⊥)
       (λ l is same. table_is_index t (index_there l) (sym found ∙ (ap (λ n. find name_order n db) same ∙ is.found))) (indexes_among items)
-      (of_indexes (IsItem pages size db) items each)))))
+      (of_indexes (IsItem pages size db) items each))
+      (all_so (IsViewListing db) (λ l. folded name ≡ folded l.row.name → ⊥)
+      (λ l is same. table_is_view t (as_view l.view) (sym found ∙ (ap (λ n. find name_order n db) same ∙ is.found))) (views_among items)
+      (of_views (IsItem pages size db) items each)))))
 
   pub home : (i : IndexListing) → IsIndexListing pages size db i → IsHome items i
   home i is = by_found (table_named i.on (tables_in items)) refl

@@ -65,7 +65,7 @@ pub record IsIndexTold (db : Database) (row : SchemaRow) (i : database.Index) : 
 
 -- ---- definitions that aren't refused
 
-quiet : {A : Type 0} (b : Bool) (r : Refusal) (k : Checked A) → faults (unless b r k) ≡ [] → (b ≡ false) × (faults k ≡ [])
+pub quiet : {A : Type 0} (b : Bool) (r : Refusal) (k : Checked A) → faults (unless b r k) ≡ [] → (b ≡ false) × (faults k ≡ [])
 quiet true r (Meant x rs) none = absurd cc
 quiet false r (Meant x rs) none = (refl, none)
 

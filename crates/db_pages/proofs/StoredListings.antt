@@ -1,4 +1,4 @@
--- What the rows of the schema table tell: tables with their rows and trees, and indexes with theirs.
+-- What the rows of the schema table tell: tables with their rows and trees, indexes with theirs, and views.
 use Rattle.std.proofs.Common.{◌≡◌, ◌⊎◌, ◌==◌, refl, sym, ap, subst, ◌∙◌, ℕ, ℤ, Bool, true, false, codes, List, [], ◌∷◌, ◌++◌, length, map, Option, Some, None, inl, inr}
 use Rattle.std.proofs.lemmas.Bool.{eqb-true, false≢true}
 use Rattle.std.proofs.lemmas.List.{length-map}
@@ -15,14 +15,14 @@ use Rattle.tree_index.specs.Tree.{IsIndexTree}
 use Rattle.index_entries.specs.Entries.{Columns, collations, entries_of_rows}
 use Rattle.catalog.specs.Database as database
 use Rattle.catalog.specs.Database.{Name, Database, Object, ATable, AnIndex, AView, ATrigger, name_order, object}
-use Rattle.catalog.specs.Listed.{as_column, shape_of, with_rows}
+use Rattle.catalog.specs.Listed.{as_column, as_view, shape_of, with_rows}
 use Rattle.catalog.specs.Rows.{are_rows, holds_rowid, holds_rows, in_record, is_in_order, is_row}
 use Rattle.catalog.specs.declared.tables.Index.{Index}
 use Rattle.catalog.specs.declared.tables.RowShape.{RowShape}
 use Rattle.catalog.specs.declared.tables.Table.{Table}
 use Rattle.query_names.proofs.ColumnNames.{folded_twice}
 use Rattle.db_files.specs.Contents.{HasPages, HasTree, IsStoredRow, ListsEntries, ListsRows}
-use Rattle.db_files.specs.Schema.{IsAutomaticRow, IsSchemaEntry, SchemaRow, IsRowOfObject, IsSchemaRowOf}
+use Rattle.db_files.specs.Schema.{IsAutomaticRow, IsSchemaEntry, IsViewRow, SchemaRow, IsRowOfObject, IsSchemaRowOf}
 use Rattle.db_layout.specs.Layout.{OfEntries, OfRows, Owner, used_by}
 use Rattle.db_layout.specs.Trees.{columns_of}
 use Rattle.row_scan.specs.Rows.{IsRow, TableRow}
@@ -30,6 +30,7 @@ use Rattle.db_pages.specs.Language.{supported_language}
 use Rattle.db_pages.proofs.StoredNames.{first_of, found_among, same_some, second_of}
 use Rattle.db_pages.proofs.StoredDefinitions.{IsTold, table_of, told}
 use Rattle.db_pages.proofs.StoredIndexes.{IsIndexTold, index_of, index_of_row, index_told, same_keys}
+use Rattle.db_pages.proofs.StoredViews.{IsViewTold, ViewListing, view_is, view_of, view_told}
 
 -- ---- listings
 
@@ -49,15 +50,17 @@ pub record IndexListing : Type 0 where
   pub used : List ℕ
   pub row : SchemaRow
 
--- one or the other
+-- one of them
 pub data Item : Type 0 where
   TableItem : Listing → Item
   IndexItem : IndexListing → Item
+  ViewItem : ViewListing → Item
 
--- of a table, or of an index
-abbrev pub either : {X : Type 0} → (Listing → X) → (IndexListing → X) → Item → X
-either f g (TableItem l) = f l
-either f g (IndexItem l) = g l
+-- of a table, of an index, or of a view
+abbrev pub by_kind : {X : Type 0} → (Listing → X) → (IndexListing → X) → (ViewListing → X) → Item → X
+by_kind f g h (TableItem l) = f l
+by_kind f g h (IndexItem l) = g l
+by_kind f g h (ViewItem l) = h l
 
 -- The database has the table with these rows, which are such as it may hold and stand in its tree.
 pub record IsListing (pages : PageMap) (size : ℕ) (db : Database) (l : Listing) : Type 0 where
@@ -99,17 +102,25 @@ pub record IsIndexListing (pages : PageMap) (size : ℕ) (db : Database) (l : In
   pub tree : IsIndexTree pages size l.index.root (collations (columns_of l.index)) l.entries l.used
   pub entries_are : l.entries ≡ entries_of_rows (columns_of l.index) t.rows
 
+-- The database has the view, as its row tells it.
+pub record IsViewListing (db : Database) (l : ViewListing) : Type 0 where
+  pub says : IsViewTold l.row l.view.definition
+  pub found : object db l.row.name ≡ Some (AView (as_view l.view))
+
 abbrev pub IsItem : PageMap → ℕ → Database → Item → Type 0
 IsItem pages size db (TableItem l) = IsListing pages size db l
 IsItem pages size db (IndexItem l) = IsIndexListing pages size db l
+IsItem pages size db (ViewItem l) = IsViewListing db l
 
 abbrev pub row_of : Item → SchemaRow
 row_of (TableItem l) = l.row
 row_of (IndexItem l) = l.row
+row_of (ViewItem l) = l.row
 
 abbrev pub rowid_of : Item → ℤ
 rowid_of (TableItem l) = l.table.rowid
 rowid_of (IndexItem l) = l.index.rowid
+rowid_of (ViewItem l) = l.view.rowid
 
 -- its tree
 abbrev pub listed_tree : Listing → Owner
@@ -118,15 +129,26 @@ listed_tree l = record { root = l.table.root; content = OfRows l.entries; used =
 abbrev pub index_tree : IndexListing → Owner
 index_tree l = record { root = l.index.root; content = OfEntries (collations (columns_of l.index)) l.entries; used = l.used }
 
-abbrev pub owner_of : Item → Owner
-owner_of item = either listed_tree index_tree item
+-- its tree, if it has one
+abbrev pub owners_of : Item → List Owner
+owners_of item = by_kind (λ l. listed_tree l ∷ []) (λ l. index_tree l ∷ []) (λ l. []) item
+
+-- the pages of its tree
+abbrev pub pages_of : Item → List ℕ
+pages_of item = by_kind (λ l. l.used) (λ l. l.used) (λ l. []) item
 
 -- the rows, and the trees of all
 abbrev pub rows_in : List Item → List SchemaRow
 rows_in items = map row_of items
 
 abbrev pub owners_in : List Item → List Owner
-owners_in items = map owner_of items
+owners_in items = flat_map owners_of items
+
+-- the pages of one and of others
+used_more : (item : Item) (owners : List Owner) → pages_of item ++ used_by owners ≡ used_by (owners_of item ++ owners)
+used_more (TableItem l) owners = refl
+used_more (IndexItem l) owners = refl
+used_more (ViewItem l) owners = refl
 
 -- ---- rows
 
@@ -244,6 +266,19 @@ module _ (pages : PageMap) (size : ℕ) (db : Database) (row : SchemaRow) (i : d
       entries_are = entries_by (columns_of its_key.index) says.t (same_keys i.columns) (same_table lists.t says.t (sym lists.on ∙ says.on));
     }
 
+-- ---- the row of a view
+
+-- a view of the database, as its row in the schema table tells it
+module _ (db : Database) (row : SchemaRow) (v : database.View) (found : object db row.name ≡ Some (AView v)) (says : IsViewRow supported_language db row v) (rowid : ℤ) where
+  abbrev pub its_view : ViewListing
+  its_view = record { view = view_of says.definition rowid; row = row }
+
+  pub is_view_listing : IsViewListing db its_view
+  is_view_listing = record {
+    says = view_told db row v says;
+    found = found ∙ ap (λ (w : database.View). Some (AView w)) (view_is says.definition v rowid says.made);
+  }
+
 -- ---- all rows of the schema table
 
 -- its row has the rowid of this entry
@@ -263,7 +298,7 @@ record Tells (pages : PageMap) (size : ℕ) (db : Database) (rowid : ℤ) (row :
   item : Item
   is : IsItem pages size db item
   row_is : row_of item ≡ row
-  used_is : used ≡ (owner_of item).used
+  used_is : used ≡ pages_of item
   rowid_is : rowid ≡ rowid_of item
 
 tells : (pages : PageMap) (size : ℕ) (db : Database) → is_in_order db ≡ true → (rowid : ℤ) (row : SchemaRow) (used : List ℕ) (o : Object) → object db row.name ≡ Some o
@@ -293,7 +328,13 @@ tells pages size db in_order rowid row used (AnIndex i) found (inr says) lists =
   used_is = refl;
   rowid_is = refl;
 }
-tells pages size db in_order rowid row used (AView v) found says lists = absurd (false≢true says.text.creates.1)
+tells pages size db in_order rowid row used (AView v) found says none = record {
+  item = ViewItem (its_view db row v found says rowid);
+  is = is_view_listing db row v found says rowid;
+  row_is = refl;
+  used_is = none;
+  rowid_is = refl;
+}
 tells pages size db in_order rowid row used (ATrigger t) found says lists = absurd (false≢true says.text.creates.1)
 
 pub listings : (pages : PageMap) (size : ℕ) (db : Database) → is_in_order db ≡ true → (entries : List Entry) (rows : List SchemaRow) (useds : List (List ℕ))
@@ -312,6 +353,7 @@ listings pages size db in_order (entry ∷ entries) (row ∷ rows) (used ∷ use
       items = first.item ∷ more.items;
       rows_are = ap (λ (r : SchemaRow). r ∷ rows_in more.items) first.row_is ∙ ap (λ (rs : List SchemaRow). row ∷ rs) more.rows_are;
       each = (first.is, more.each);
-      used = ap (λ (ns : List ℕ). ns ++ flat_map (λ ms. ms) useds) first.used_is ∙ ap (λ (ns : List ℕ). (owner_of first.item).used ++ ns) more.used;
+      used = ap (λ (ns : List ℕ). ns ++ flat_map (λ ms. ms) useds) first.used_is
+          ∙ (ap (λ (ns : List ℕ). pages_of first.item ++ ns) more.used ∙ used_more first.item (owners_in more.items));
       at_rowids = (first.rowid_is, more.at_rowids);
     }

@@ -1,4 +1,4 @@
--- The database of the tables and indexes that the schema's rows tell: its objects, by their names.
+-- The database of the tables, indexes and views that the schema's rows tell: its objects, by their names.
 use Rattle.std.proofs.Common.{◌≡◌, ◌⊎◌, inl, inr, refl, sym, ap, ap₂, subst, ◌∙◌, ℕ, Bool, true, false, not, ◌&&◌, ◌||◌, cond, List, [], ◌∷◌, ◌++◌, map, flat_map, Option, Some, None}
 use Rattle.std.proofs.lemmas.Bool.{false≢true}
 use Rattle.std.specs.FinMap.Entries.{find}
@@ -8,27 +8,29 @@ use Rattle.std.specs.Prelude.{option_map}
 use Rattle.sqlval.specs.Lists.{any_twice, is_rising, sorted}
 use Rattle.sqlval.specs.Names.{folded, is_same_name}
 use Rattle.pages.specs.Map.{PageMap}
-use Rattle.catalog.specs.Database.{Name, Database, Object, ATable, AnIndex, name_order, object}
-use Rattle.catalog.specs.Listed.{Lists, are_named_once, has_only_plain, index_objects, is_plain_object, named_among, names_of, as_index, with_rows, table_named}
-use Rattle.catalog.specs.Named.{IsNamed, IsOfTables}
+use Rattle.catalog.specs.Database.{Name, Database, Object, ATable, AnIndex, AView, name_order, object}
+use Rattle.catalog.specs.Listed.{Listed, Lists, are_named_once, has_no_trigger, index_objects, is_no_trigger, named_among, names_of, as_index, as_view, with_rows, table_named, view_object}
+use Rattle.catalog.specs.Named.{IsNamed, IsOfListed}
 use Rattle.catalog.specs.Rows.{holds_rows, is_in_order}
 use Rattle.catalog.specs.declared.tables.Index.{Index}
 use Rattle.catalog.specs.declared.tables.Table.{Table}
-use Rattle.catalog.proofs.Found.{as_object, index_found, listed_as}
+use Rattle.catalog.specs.declared.tables.View.{View}
+use Rattle.catalog.proofs.Found.{as_object, behind_found, listed_as}
 use Rattle.query_names.proofs.ColumnNames.{folded_twice}
 use Rattle.db_files.specs.Schema.{SchemaRow, automatic_indexes}
 use Rattle.db_layout.specs.Trees.{columns_of}
 use Rattle.row_scan.specs.Rows.{TableRow}
 use Rattle.db_pages.specs.Schema.{HasKeyIndexes, automatic_objects, due_objects}
 use Rattle.db_pages.proofs.AutomaticObjects.{are_due, each_kept}
+use Rattle.db_pages.proofs.NamedObjects.{behind_names, one_among, own_names}
 use Rattle.db_pages.proofs.Reordering.{reordered_all, reordered_map}
 use Rattle.db_pages.proofs.SortedObjects.{HaveFoldedNames, by_name}
 use Rattle.db_pages.proofs.StoredShares.{AllApart, GoesWithOne, apart_reordered, theirs}
 use Rattle.db_pages.proofs.StoredNames.{Misses, all_sorted, each_found, first_of, missed, names_in, rising_different, named_same, same_named, same_some, some_is_none}
-use Rattle.db_pages.proofs.StoredListings.{IndexItem, IndexListing, IsIndexListing, IsItem, IsListing, IsOfKey, IsOfText, Item, Listing, TableItem, either, index_there, row_of, rows_in}
-use Rattle.db_pages.proofs.StoredApart.{NamesApart, RootsApart, Stands, all_both, all_joined, all_parts, all_so, all_stand, content_at, from_map, index_row_named, indexes_among, of_indexes, of_items, of_tables, onto_map, onto_names, other_name, row_named, row_names, tables_among}
-use Rattle.db_pages.proofs.StoredHomes.{HasHome, IsFoundIn, IsFoundWith, IsHome, all_theirs, each_found as all_found, found_with, home, is_on, none_named, on_one, tables_in, with_indexes}
-use Rattle.db_pages.proofs.StoredOrders.{index_name, names_reordered, table_name}
+use Rattle.db_pages.proofs.StoredListings.{IndexItem, IndexListing, IsIndexListing, IsItem, IsListing, IsOfKey, IsOfText, IsViewListing, Item, Listing, TableItem, ViewItem, by_kind, index_there, row_of, rows_in}
+use Rattle.db_pages.proofs.StoredApart.{NamesApart, RootsApart, Stands, all_both, all_joined, all_parts, all_so, all_stand, content_at, from_map, index_row_named, indexes_among, of_indexes, of_items, of_tables, of_views, onto_map, onto_names, other_name, row_named, row_names, tables_among, views_among}
+use Rattle.db_pages.proofs.StoredHomes.{HasHome, IsFoundIn, IsFoundWith, IsHome, all_listed, all_theirs, each_found as all_found, found_with, home, is_on, none_named, on_one, tables_in, views_in, with_indexes}
+use Rattle.db_pages.proofs.StoredOrders.{index_name, names_reordered, table_name, view_name}
 
 -- ---- names of rows and of objects
 
@@ -49,7 +51,7 @@ onto_objects P (e ∷ es) h = (h.0, onto_objects P es h.1)
 
 -- ---- the database
 
--- These are the tables and indexes of the database, and each table has a tree of its own.
+-- These are the tables, indexes and views of the database, and each table has a tree of its own.
 pub record AreObjects (pages : PageMap) (size : ℕ) (db : Database) (items : List Item) : Type 0 where
   pub each : AllByRecursion (IsItem pages size db) items
   pub apart : AllApart (row_names (rows_in items))
@@ -59,11 +61,11 @@ pub record AreObjects (pages : PageMap) (size : ℕ) (db : Database) (items : Li
   pub in_order : is_in_order db ≡ true
 
 abbrev IsPlain : Object → Type 0
-IsPlain o = is_plain_object o ≡ true
+IsPlain o = is_no_trigger o ≡ true
 
-all_plain : (es : Database) → AllByRecursion (λ e. IsPlain e.1) es → has_only_plain es ≡ true
+all_plain : (es : Database) → AllByRecursion (λ e. IsPlain e.1) es → has_no_trigger es ≡ true
 all_plain [] h = refl
-all_plain (e ∷ es) h = subst (λ b. (b && list_all (λ (o : Name × Object). is_plain_object o.1) es) ≡ true) (sym h.0) (all_plain es h.1)
+all_plain (e ∷ es) h = subst (λ b. (b && list_all (λ (o : Name × Object). is_no_trigger o.1) es) ≡ true) (sym h.0) (all_plain es h.1)
 
 -- an index under its name
 abbrev object_of : List IndexListing → Listing → IndexListing → Name × Object
@@ -83,28 +85,26 @@ found_object db name (x ∷ objects) o all found = by_test (found_object db name
     by_test rest true is found = ap (λ n. find name_order n db) (sym (named_same x.0 name is)) ∙ (all.0 ∙ found)
     by_test rest false is found = rest found
 
--- where none is found under a name, no index has it
+-- another name
 abbrev Others : Name → Name → Type 0
 Others name other = folded other ≡ folded name → ⊥
 
-none_of_table : (name : Name) (t : Table) (is : List Index) (os : List (Name × Object)) → named_among name (map (λ (i : Index). (i.name, AnIndex (as_index t i))) is ++ os) ≡ None
-    → AllByRecursion (Others name) (map (λ (i : Index). i.name) is) × (named_among name os ≡ None)
-none_of_table name t [] os none = (tt, none)
-none_of_table name t (i ∷ is) os none = by_test (none_of_table name t is os) (is_same_name i.name name) refl none
+-- where a name finds none of the objects, none has it
+none_of : (name : Name) (os : List (Name × Object)) → named_among name os ≡ None → AllByRecursion (Others name) (own_names os)
+none_of name [] none = tt
+none_of name (o ∷ os) none = by_test (none_of name os) (is_same_name o.0 name) refl (sym (one_among name o os) ∙ none)
   where
-    by_test : (named_among name (map (λ (i : Index). (i.name, AnIndex (as_index t i))) is ++ os) ≡ None → AllByRecursion (Others name) (map (λ (i : Index). i.name) is) × (named_among name os ≡ None))
-        → (b : Bool) → is_same_name i.name name ≡ b
-        → option_map (λ (y : Name × Object). y.1) (cond b (Some (i.name, AnIndex (as_index t i)))
-        (list.find (λ (y : Name × Object). is_same_name y.0 name) (map (λ (i : Index). (i.name, AnIndex (as_index t i))) is ++ os))) ≡ None
-        → AllByRecursion (Others name) (map (λ (i : Index). i.name) (i ∷ is)) × (named_among name os ≡ None)
-    by_test rest true is none = some_is_none (AnIndex (as_index t i)) none
-    by_test rest false is none = (let both = rest none in (((λ same. false≢true (sym is ∙ same_named i.name name same)), both.0), both.1))
+    by_test : (named_among name os ≡ None → AllByRecursion (Others name) (own_names os)) → (b : Bool) → is_same_name o.0 name ≡ b → cond b (Some o.1) (named_among name os) ≡ None
+        → AllByRecursion (Others name) (own_names (o ∷ os))
+    by_test rest true is none = some_is_none o.1 none
+    by_test rest false is none = ((λ same. false≢true (sym is ∙ same_named o.0 name same)), rest none)
 
-none_of_tables : (name : Name) (tables : List Table) → index_found name tables ≡ None → AllByRecursion (Others name) (flat_map (λ t. map (λ i. i.name) t.indexes) tables)
-none_of_tables name [] none = tt
-none_of_tables name (t ∷ tables) none =
-    let both = none_of_table name t t.indexes (flat_map index_objects tables) none in
-    all_joined (Others name) (map (λ i. i.name) t.indexes) (flat_map (λ t. map (λ i. i.name) t.indexes) tables) both.0 (none_of_tables name tables both.1)
+-- where none is found behind the tables, no view and no index has the name
+none_behind : (name : Name) (l : Listed) → behind_found name l ≡ None
+    → AllByRecursion (Others name) (map (λ v. v.definition.name) l.views ++ flat_map (λ t. map (λ i. i.name) t.indexes) l.tables)
+none_behind name l none =
+    subst (λ (ns : List Name). AllByRecursion (Others name) ns) (behind_names l)
+    (none_of name (map view_object l.views ++ flat_map index_objects l.tables) none)
 
 -- names whose folded ones differ
 any_named : (name : Name) (names : List Name) → AllByRecursion (λ n. folded name ≡ n → ⊥) (map folded names) → list_any (is_same_name name) names ≡ false
@@ -130,6 +130,9 @@ module _ (pages : PageMap) (size : ℕ) (db : Database) (items : List Item) (are
   pub each_index : AllByRecursion (IsIndexListing pages size db) indexes
   each_index = of_indexes (IsItem pages size db) items are.each
 
+  each_view : AllByRecursion (IsViewListing db) (views_among items)
+  each_view = of_views (IsItem pages size db) items are.each
+
   pub stand : AllByRecursion (Stands pages size db tables) tables
   stand = all_stand pages size db tables each_table are.roots
 
@@ -139,6 +142,7 @@ module _ (pages : PageMap) (size : ℕ) (db : Database) (items : List Item) (are
 
   pub homes_all : AllByRecursion (HasHome items) items
   homes_all = of_items (HasHome items) items (all_so (IsListing pages size db) (λ l. HasHome items (TableItem l)) (λ l is. tt) tables each_table) homes_are
+      (all_so (IsViewListing db) (λ l. HasHome items (ViewItem l)) (λ l is. tt) (views_among items) each_view)
 
   -- each index is on one table
   pub on_ones : AllByRecursion (λ i. GoesWithOne is_on i tables) indexes
@@ -152,21 +156,22 @@ module _ (pages : PageMap) (size : ℕ) (db : Database) (items : List Item) (are
         (onto_names (λ n. folded n ≡ n) items (all_so (IsItem pages size db) (λ item. folded (folded (row_of item).name) ≡ folded (row_of item).name) (λ item is. folded_twice (row_of item).name) items are.each)));
   }
 
-  -- ---- plain objects
+  -- ---- no triggers
 
   plain_item : (item : Item) → IsItem pages size db item → (o : Object) → find name_order (folded (row_of item).name) db ≡ Some o → IsPlain o
   plain_item (TableItem l) is o found = subst IsPlain (same_some (ATable (with_rows l.table l.content)) o (sym is.found ∙ found)) refl
   plain_item (IndexItem l) is o found = subst IsPlain (same_some (AnIndex (index_there l)) o (sym is.found ∙ found)) refl
+  plain_item (ViewItem l) is o found = subst IsPlain (same_some (AView (as_view l.view)) o (sym is.found ∙ found)) refl
 
-  pub only : has_only_plain db ≡ true
-  only =
+  pub has_none : has_no_trigger db ≡ true
+  has_none =
       all_plain db (all_both (λ e. find name_order e.0 db ≡ Some e.1) (λ e. (o : Object) → find name_order e.0 db ≡ Some o → IsPlain o) (λ e. IsPlain e.1) (λ e found is. is e.1 found) db
       (each_found (λ q o. find name_order q db ≡ Some o) db (rising_different (names_in db) named.rising) (λ q o found. found))
       (onto_objects (λ n. (o : Object) → find name_order n db ≡ Some o → IsPlain o) db (all_names (λ n. (o : Object) → find name_order n db ≡ Some o → IsPlain o) (rows_in items) db are.names
       (onto_names (λ n. (o : Object) → find name_order n db ≡ Some o → IsPlain o) items
       (all_so (IsItem pages size db) (λ item. (o : Object) → find name_order (folded (row_of item).name) db ≡ Some o → IsPlain o) plain_item items are.each)))))
 
-  -- ---- tables and indexes by their names
+  -- ---- tables, indexes and views by their names
 
   index_is : (l : Listing) (i : IndexListing) → IsIndexListing pages size db i → is_on l i ≡ true → IsObject db (object_of indexes l i)
   index_is l i is on =
@@ -186,6 +191,12 @@ module _ (pages : PageMap) (size : ℕ) (db : Database) (items : List Item) (are
       (all_so (IsIndexListing pages size db) (λ i. is_on l i ≡ true → IsObject db (object_of indexes l i)) (λ i is on. index_is l i is on) indexes each_index))))
       tables each_table))
 
+  -- and so are all views
+  views_are : AllByRecursion (IsObject db) (map view_object (views_in items))
+  views_are =
+      onto_map (IsObject db) view_object (views_in items) (onto_map (λ (v : View). IsObject db (view_object v)) (λ l. l.view) (views_among items)
+      (all_so (IsViewListing db) (λ l. IsObject db (view_object l.view)) (λ l is. ap (λ n. find name_order n db) (sym is.says.name_is) ∙ is.found) (views_among items) each_view))
+
   -- a listed table is found in the database
   found_listed : (name : Name) (t : Table) → IsFoundWith indexes (Stands pages size db tables) name t → object db name ≡ Some (ATable (with_rows t (content_at tables t.root)))
   found_listed name t f =
@@ -193,38 +204,42 @@ module _ (pages : PageMap) (size : ℕ) (db : Database) (items : List Item) (are
       ∙ (f.holds.is.found ∙ (ap (λ (rows : List TableRow). Some (ATable (with_rows f.l.table rows))) (sym f.holds.content_is)
       ∙ ap (λ (u : Table). Some (ATable (with_rows u (content_at tables u.root)))) f.table_is))
 
-  -- what neither a table nor an index has as its name is no name of the database
+  -- what no table, index or view has as its name is no name of the database
   abbrev own_name : Item → Name
-  own_name item = either table_name index_name item
+  own_name item = by_kind table_name index_name view_name item
 
   own_named : (item : Item) → IsItem pages size db item → folded (row_of item).name ≡ folded (own_name item)
   own_named (TableItem l) is = row_named pages size db l is
   own_named (IndexItem l) is = index_row_named pages size db l is
+  own_named (ViewItem l) is = is.says.name_is
 
-  not_listed : (name : Name) → table_named name (tables_in items) ≡ None → index_found name (tables_in items) ≡ None → object db name ≡ None
-  not_listed name no_table no_index =
+  not_listed : (name : Name) → table_named name (tables_in items) ≡ None → behind_found name (all_listed items) ≡ None → object db name ≡ None
+  not_listed name no_table none =
       missed_by db (rows_in items) are.names (folded name) (onto_names (λ n. folded name ≡ n → ⊥) items
       (all_both (IsItem pages size db) (λ item. Others name (own_name item)) (λ item. folded name ≡ folded (row_of item).name → ⊥)
       (λ item is other same. other (sym (same ∙ own_named item is))) items are.each
-      (from_map (Others name) own_name items (reordered_all (Others name) (map own_name items) (names_of (tables_in items)) (names_reordered items on_ones)
-      (all_joined (Others name) (map (λ t. t.name) (tables_in items)) (flat_map (λ t. map (λ i. i.name) t.indexes) (tables_in items))
+      (from_map (Others name) own_name items (reordered_all (Others name) (map own_name items) (names_of (all_listed items)) (names_reordered items on_ones)
+      (all_joined (Others name) (map (λ t. t.name) (tables_in items)) (map (λ v. v.definition.name) (views_in items) ++ flat_map (λ t. map (λ i. i.name) t.indexes) (tables_in items))
       (onto_map (Others name) (λ (t : Table). t.name) (tables_in items) (onto_map (λ (t : Table). Others name t.name) (with_indexes indexes) tables (none_named indexes tables name no_table)))
-      (none_of_tables name (tables_in items) no_index))))))
+      (none_behind name (all_listed items) none))))))
 
-  pub lists : Lists (content_at tables) (tables_in items) db
-  lists name = by_found (table_named name (tables_in items)) refl ∙ sym (listed_as (content_at tables) name (tables_in items))
+  pub lists : Lists (content_at tables) (all_listed items) db
+  lists name = by_found (table_named name (tables_in items)) refl ∙ sym (listed_as (content_at tables) name (all_listed items))
     where
-      by_index : (found : Option Object) → table_named name (tables_in items) ≡ None → index_found name (tables_in items) ≡ found → object db name ≡ found
-      by_index (Some o) none found = found_object db name (flat_map index_objects (tables_in items)) o indexes_are found
-      by_index None none found = not_listed name none found
+      behind : Option Object
+      behind = behind_found name (all_listed items)
 
-      by_found : (found : Option Table) → table_named name (tables_in items) ≡ found → object db name ≡ as_object (content_at tables) (index_found name (tables_in items)) (table_named name (tables_in items))
+      by_behind : (found : Option Object) → table_named name (tables_in items) ≡ None → behind_found name (all_listed items) ≡ found → object db name ≡ found
+      by_behind (Some o) none found =
+          found_object db name (map view_object (views_in items) ++ flat_map index_objects (tables_in items)) o
+          (all_joined (IsObject db) (map view_object (views_in items)) (flat_map index_objects (tables_in items)) views_are indexes_are) found
+      by_behind None none found = not_listed name none found
+
+      by_found : (found : Option Table) → table_named name (tables_in items) ≡ found → object db name ≡ as_object (content_at tables) behind (table_named name (tables_in items))
       by_found (Some t) found =
           found_listed name t (found_with indexes (Stands pages size db tables) tables name t stand found)
-          ∙ ap (as_object (content_at tables) (index_found name (tables_in items))) (sym found)
-      by_found None found =
-          by_index (index_found name (tables_in items)) found refl
-          ∙ ap (as_object (content_at tables) (index_found name (tables_in items))) (sym found)
+          ∙ ap (as_object (content_at tables) behind) (sym found)
+      by_found None found = by_behind behind found refl ∙ ap (as_object (content_at tables) behind) (sym found)
 
   -- ---- names, each once
 
@@ -232,14 +247,14 @@ module _ (pages : PageMap) (size : ℕ) (db : Database) (items : List Item) (are
   same_names [] each = refl
   same_names (item ∷ some) each = ap₂ (λ n ns. n ∷ ns) (own_named item each.0) (same_names some each.1)
 
-  pub once_named : are_named_once (tables_in items) ≡ true
+  pub once_named : are_named_once (all_listed items) ≡ true
   once_named =
-      ap not (named_once (names_of (tables_in items)) (apart_reordered (map folded (map own_name items)) (map folded (names_of (tables_in items)))
-      (reordered_map folded (map own_name items) (names_of (tables_in items)) (names_reordered items on_ones))
+      ap not (named_once (names_of (all_listed items)) (apart_reordered (map folded (map own_name items)) (map folded (names_of (all_listed items)))
+      (reordered_map folded (map own_name items) (names_of (all_listed items)) (names_reordered items on_ones))
       (subst (λ (ns : List Name). AllApart ns) (same_names items are.each) are.apart)))
 
-  pub of_these : IsOfTables (content_at tables) (tables_in items) db
-  of_these = record { lists = lists; only = only; named = named; once = once_named }
+  pub of_these : IsOfListed (content_at tables) (all_listed items) db
+  of_these = record { lists = lists; quiet = has_none; named = named; once = once_named }
 
   -- ---- the indexes that keys ask for
 
@@ -266,5 +281,5 @@ module _ (pages : PageMap) (size : ℕ) (db : Database) (items : List Item) (are
   has_keys =
       onto_map HasKeyIndexes (with_indexes indexes) tables
       (all_both (IsListing pages size db) (IsFoundIn indexes tables) (λ l. HasKeyIndexes (with_indexes indexes l))
-      (λ l is found. are_due (content_at tables) (tables_in items) db of_these (with_indexes indexes l) (found l.table.name (same_named l.table.name l.table.name refl)) (automatic_folded l) (due_are l is))
+      (λ l is found. are_due (content_at tables) (all_listed items) db of_these (with_indexes indexes l) (found l.table.name (same_named l.table.name l.table.name refl)) (automatic_folded l) (due_are l is))
       tables each_table (all_found indexes tables are.tables_apart))

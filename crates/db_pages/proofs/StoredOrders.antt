@@ -1,20 +1,22 @@
--- What the rows tell, the names and the trees: in the order of the rows, and in that of the tables with their indexes.
-use Rattle.std.proofs.Common.{◌≡◌, refl, sym, ap, ap₂, ◌∙◌, pos, Bool, true, false, cond, List, [], ◌∷◌, ◌++◌, map, flat_map, Option, None}
+-- What the rows tell, the names and the trees: in the order of the rows, and in that of the tables with their indexes and of the views.
+use Rattle.std.proofs.Common.{◌≡◌, refl, sym, ap, ap₂, ◌∙◌, append_assoc, pos, Bool, true, false, cond, List, [], ◌∷◌, ◌++◌, map, flat_map, Option, None}
 use Rattle.std.specs.List.{AllByRecursion}
 use Rattle.std.specs.Prelude.{unwrap_or}
 use Rattle.catalog.specs.Database.{Name}
 use Rattle.catalog.specs.Listed.{names_of, table_named}
 use Rattle.catalog.specs.declared.tables.Index.{Index}
 use Rattle.catalog.specs.declared.tables.Table.{Table}
+use Rattle.catalog.specs.declared.tables.View.{View}
 use Rattle.db_layout.specs.Layout.{Owner}
 use Rattle.db_pages.specs.Reordering.{AreReordered}
-use Rattle.db_pages.specs.Schema.{Told, TableTold, IndexTold, all_told}
+use Rattle.db_pages.specs.Schema.{Told, TableTold, IndexTold, ViewTold, all_told, tables_told}
 use Rattle.db_pages.specs.Stored.{all_trees}
-use Rattle.db_pages.proofs.Reordering.{is_reordered, reordered_both, reordered_is, reordered_refl, reordered_trans}
+use Rattle.db_pages.proofs.Reordering.{is_reordered, reordered_both, reordered_is, reordered_refl, reordered_swapped, reordered_trans}
 use Rattle.db_pages.proofs.StoredShares.{GoesWithOne, flat_none, flat_ones, nothing_of, shared_out, theirs, with_theirs}
-use Rattle.db_pages.proofs.StoredListings.{IndexListing, Item, Listing, either, index_tree, listed_tree, owners_in}
-use Rattle.db_pages.proofs.StoredApart.{indexes_among, split_items, tables_among}
-use Rattle.db_pages.proofs.StoredHomes.{IsFoundIn, is_on, tables_in, with_indexes}
+use Rattle.db_pages.proofs.StoredListings.{IndexListing, Item, Listing, by_kind, index_tree, listed_tree, owners_in}
+use Rattle.db_pages.proofs.StoredApart.{indexes_among, split_items, split_trees, tables_among, views_among}
+use Rattle.db_pages.proofs.StoredHomes.{IsFoundIn, all_listed, is_on, tables_in, views_in, with_indexes}
+use Rattle.db_pages.proofs.StoredViews.{ViewListing}
 
 map_twice : {A B C : Type 0} (g : B → C) (f : A → B) (xs : List A) → map g (map f xs) ≡ map (λ x. g (f x)) xs
 map_twice g f [] = refl
@@ -36,8 +38,11 @@ table_told items l = TableTold (with_indexes (indexes_among items) l)
 abbrev pub index_told : List Item → IndexListing → Told
 index_told items i = IndexTold (table_for items i.on) i.index
 
+abbrev pub view_told : ViewListing → Told
+view_told l = ViewTold l.view
+
 abbrev pub told_of : List Item → Item → Told
-told_of items item = either (table_told items) (index_told items) item
+told_of items item = by_kind (table_told items) (index_told items) view_told item
 
 -- its name
 abbrev pub table_name : Listing → Name
@@ -45,6 +50,20 @@ table_name l = l.table.name
 
 abbrev pub index_name : IndexListing → Name
 index_name i = i.index.name
+
+abbrev pub view_name : ViewListing → Name
+view_name l = l.view.definition.name
+
+-- tables and indexes in another order, and views as they are
+with_views : {X Y : Type 0} (xs ys : List X) (h : ViewListing → X) (f : Y → X) (g : ViewListing → Y) (views : List ViewListing) → ((l : ViewListing) → f (g l) ≡ h l) → AreReordered xs ys
+    → AreReordered (xs ++ map h views) (ys ++ map f (map g views))
+with_views {X} xs ys h f g views same moved =
+    reordered_both xs ys (map h views) (map f (map g views)) moved
+    (reordered_is (map h views) (map h views) (map f (map g views)) (each views) (reordered_refl (map h views)))
+  where
+    each : (some : List ViewListing) → map h some ≡ map f (map g some)
+    each [] = refl
+    each (l ∷ some) = ap₂ (λ (x : X) (zs : List X). x ∷ zs) (sym (same l)) (each some)
 
 module _ (items : List Item) where
   abbrev tables : List Listing
@@ -64,21 +83,22 @@ module _ (items : List Item) where
       by_test true is rest = ap₂ (λ u zs. IndexTold u i.index ∷ zs) (found i is) rest
       by_test false is rest = rest
 
-  tables_told : (some : List Listing) → AllByRecursion (IsFoundIn indexes tables) some
-      → with_theirs is_on (λ l. table_told items l ∷ []) (index_told items) indexes some ≡ all_told (map (with_indexes indexes) some)
-  tables_told [] found = refl
-  tables_told (l ∷ some) found =
+  tables_so : (some : List Listing) → AllByRecursion (IsFoundIn indexes tables) some
+      → with_theirs is_on (λ l. table_told items l ∷ []) (index_told items) indexes some ≡ tables_told (map (with_indexes indexes) some)
+  tables_so [] found = refl
+  tables_so (l ∷ some) found =
       ap₂ (λ (a b : List Told). (table_told items l ∷ a) ++ b)
       (indexes_told l (with_indexes indexes l) indexes (λ i is. ap (λ (o : Option Table). unwrap_or o no_table) (found.0 i.on is)))
-      (tables_told some found.1)
+      (tables_so some found.1)
 
-  pub told_reordered : AllByRecursion (IsFoundIn indexes tables) tables → AllByRecursion (λ i. GoesWithOne is_on i tables) indexes → AreReordered (map (told_of items) items) (all_told (tables_in items))
+  pub told_reordered : AllByRecursion (IsFoundIn indexes tables) tables → AllByRecursion (λ i. GoesWithOne is_on i tables) indexes → AreReordered (map (told_of items) items) (all_told (all_listed items))
   told_reordered found one =
-      reordered_trans (map (told_of items) items) (flat_map (λ l. table_told items l ∷ []) tables ++ map (index_told items) indexes) (all_told (tables_in items))
-      (split_items (table_told items) (index_told items) items)
+      reordered_trans (map (told_of items) items) ((flat_map (λ l. table_told items l ∷ []) tables ++ map (index_told items) indexes) ++ map view_told (views_among items)) (all_told (all_listed items))
+      (split_items (table_told items) (index_told items) view_told items)
+      (with_views (flat_map (λ l. table_told items l ∷ []) tables ++ map (index_told items) indexes) (tables_told (tables_in items)) view_told ViewTold (λ l. l.view) (views_among items) (λ l. refl)
       (reordered_is (flat_map (λ l. table_told items l ∷ []) tables ++ map (index_told items) indexes)
-      (with_theirs is_on (λ l. table_told items l ∷ []) (index_told items) indexes tables) (all_told (tables_in items)) (tables_told tables found)
-      (shared_out is_on (λ l. table_told items l ∷ []) (index_told items) tables indexes one))
+      (with_theirs is_on (λ l. table_told items l ∷ []) (index_told items) indexes tables) (tables_told (tables_in items)) (tables_so tables found)
+      (shared_out is_on (λ l. table_told items l ∷ []) (index_told items) tables indexes one)))
 
   -- ---- names
 
@@ -86,16 +106,35 @@ module _ (items : List Item) where
   index_names [] = refl
   index_names (l ∷ some) = ap₂ (λ (a b : List Name). a ++ b) (sym (map_twice (λ (i : Index). i.name) (λ i. i.index) (theirs is_on indexes l))) (index_names some)
 
-  pub names_reordered : AllByRecursion (λ i. GoesWithOne is_on i tables) indexes → AreReordered (map (λ item. either table_name index_name item) items) (names_of (tables_in items))
-  names_reordered one =
-      reordered_trans (map (λ item. either table_name index_name item) items) (flat_map (λ l. table_name l ∷ []) tables ++ map index_name indexes) (names_of (tables_in items))
-      (split_items table_name index_name items)
-      (reordered_both (flat_map (λ l. table_name l ∷ []) tables) (map (λ t. t.name) (tables_in items)) (map index_name indexes) (flat_map (λ t. map (λ i. i.name) t.indexes) (tables_in items))
-      (reordered_is (flat_map (λ l. table_name l ∷ []) tables) (flat_map (λ l. table_name l ∷ []) tables) (map (λ t. t.name) (tables_in items))
+  -- the names of tables, those of views, and those of indexes
+  abbrev of_tables : List Name
+  of_tables = map (λ t. t.name) (tables_in items)
+
+  abbrev of_views : List Name
+  of_views = map (λ v. v.definition.name) (views_in items)
+
+  abbrev of_indexes : List Name
+  of_indexes = flat_map (λ t. map (λ i. i.name) t.indexes) (tables_in items)
+
+  tables_and_indexes : AllByRecursion (λ i. GoesWithOne is_on i tables) indexes → AreReordered (flat_map (λ l. table_name l ∷ []) tables ++ map index_name indexes) (of_tables ++ of_indexes)
+  tables_and_indexes one =
+      reordered_both (flat_map (λ l. table_name l ∷ []) tables) of_tables (map index_name indexes) of_indexes
+      (reordered_is (flat_map (λ l. table_name l ∷ []) tables) (flat_map (λ l. table_name l ∷ []) tables) of_tables
       (flat_ones table_name tables ∙ sym (map_twice (λ (t : Table). t.name) (with_indexes indexes) tables)) (reordered_refl (flat_map (λ l. table_name l ∷ []) tables)))
-      (reordered_is (map index_name indexes) (with_theirs is_on nothing_of index_name indexes tables) (flat_map (λ t. map (λ i. i.name) t.indexes) (tables_in items)) (index_names tables)
+      (reordered_is (map index_name indexes) (with_theirs is_on nothing_of index_name indexes tables) of_indexes (index_names tables)
       (is_reordered (flat_map nothing_of tables ++ map index_name indexes) (map index_name indexes) (with_theirs is_on nothing_of index_name indexes tables)
-      (ap (λ (zs : List Name). zs ++ map index_name indexes) (flat_none tables)) (shared_out is_on nothing_of index_name tables indexes one))))
+      (ap (λ (zs : List Name). zs ++ map index_name indexes) (flat_none tables)) (shared_out is_on nothing_of index_name tables indexes one)))
+
+  pub names_reordered : AllByRecursion (λ i. GoesWithOne is_on i tables) indexes → AreReordered (map (λ item. by_kind table_name index_name view_name item) items) (names_of (all_listed items))
+  names_reordered one =
+      reordered_trans (map (λ item. by_kind table_name index_name view_name item) items) ((flat_map (λ l. table_name l ∷ []) tables ++ map index_name indexes) ++ map view_name (views_among items))
+      (of_tables ++ (of_views ++ of_indexes))
+      (split_items table_name index_name view_name items)
+      (reordered_trans ((flat_map (λ l. table_name l ∷ []) tables ++ map index_name indexes) ++ map view_name (views_among items)) ((of_tables ++ of_indexes) ++ of_views) (of_tables ++ (of_views ++ of_indexes))
+      (with_views (flat_map (λ l. table_name l ∷ []) tables ++ map index_name indexes) (of_tables ++ of_indexes) view_name (λ (v : View). v.definition.name) (λ l. l.view) (views_among items) (λ l. refl)
+      (tables_and_indexes one))
+      (is_reordered (of_tables ++ (of_indexes ++ of_views)) ((of_tables ++ of_indexes) ++ of_views) (of_tables ++ (of_views ++ of_indexes)) (sym (append_assoc of_tables of_indexes of_views))
+      (reordered_both of_tables of_tables (of_indexes ++ of_views) (of_views ++ of_indexes) (reordered_refl of_tables) (reordered_swapped of_indexes of_views))))
 
   -- ---- trees
 
@@ -113,6 +152,6 @@ module _ (items : List Item) where
   pub trees_reordered : AllByRecursion (λ i. GoesWithOne is_on i tables) indexes → AreReordered (owners_in items) (all_trees held_by)
   trees_reordered one =
       reordered_trans (owners_in items) (flat_map (λ l. listed_tree l ∷ []) tables ++ map index_tree indexes) (all_trees held_by)
-      (split_items listed_tree index_tree items)
+      (split_trees items)
       (reordered_is (flat_map (λ l. listed_tree l ∷ []) tables ++ map index_tree indexes) (with_theirs is_on (λ l. listed_tree l ∷ []) index_tree indexes tables) (all_trees held_by)
       (trees_held tables) (shared_out is_on (λ l. listed_tree l ∷ []) index_tree tables indexes one))

@@ -22,12 +22,12 @@ use Rattle.db_pages.proofs.Reordering.{all_reordered}
 use Rattle.db_pages.proofs.ReorderedPairs.{reordered_count}
 use Rattle.db_pages.proofs.StoredShares.{AllApart}
 use Rattle.db_pages.proofs.StoredNames.{first_of, names_in, sorted_different}
-use Rattle.db_pages.proofs.StoredApart.{content_at, fewer_roots, from_map, indexes_among, names_apart, none_there, root_of, roots_apart, roots_in, row_names, table_roots, tables_among}
-use Rattle.db_pages.proofs.StoredHomes.{each_found, tables_in}
+use Rattle.db_pages.proofs.StoredApart.{content_at, fewer_roots, indexes_among, names_apart, none_there, roots_apart, roots_in, row_names, table_roots, tables_among}
+use Rattle.db_pages.proofs.StoredHomes.{all_listed, each_found}
 use Rattle.db_pages.proofs.StoredListings.{AreListings, Item, listings, owners_in, rows_in}
 use Rattle.db_pages.proofs.StoredObjects.{AreObjects, each_index, has_keys, homes_all, of_these, on_ones, stand}
 use Rattle.db_pages.proofs.StoredOrders.{held_by, told_of, told_reordered, trees_reordered}
-use Rattle.db_pages.proofs.StoredTables.{IsAfterFirst, once, rows_told}
+use Rattle.db_pages.proofs.StoredTables.{IsAfterFirst, each_after, once, rows_told}
 use Rattle.db_pages.proofs.StoredTreePages.{free_there, owner_there, root_used}
 use Rattle.db_pages.proofs.StoredTrees.{roots_used, trees_in, trees_so, used_there}
 
@@ -82,6 +82,9 @@ module _ (pages : PageMap) (size : ℕ) (db : Database) (stands : StandsFor supp
   abbrev own : Owner
   own = schema_tree stands.schema.entries stands.schema_used
 
+  are_trees : AllByRecursion (IsTree pages size) (owners_in items)
+  are_trees = trees_in pages size db items told_items.each
+
   -- ---- pages
 
   all_used : (n : ℕ) → occurs n (stands.schema_used ++ (flat_map (λ used. used) stands.trees_used ++ free)) ≡ occurs n stands.schema_used + occurs n (used_by (owners_in items)) + occurs n free
@@ -96,7 +99,7 @@ module _ (pages : PageMap) (size : ℕ) (db : Database) (stands : StandsFor supp
   each_there n some = elim (cases_lt 0 (occurs n stands.schema_used)) [
     | inl here ↦ owner_there pages size own n stands.schema.tree (omega (arith, here))
     | inr none ↦ elim (cases_lt 0 (occurs n (used_by (owners_in items)))) [
-      | inl here ↦ used_there pages size n (owners_in items) (trees_in pages size db items told_items.each) (omega (arith, here))
+      | inl here ↦ used_there pages size n (owners_in items) are_trees (omega (arith, here))
       | inr no_tree ↦ free_there pages size stands.trunks n stands.freelist.trunks_are (omega (arith, none, no_tree, some))
     ]
   ]
@@ -105,21 +108,21 @@ module _ (pages : PageMap) (size : ℕ) (db : Database) (stands : StandsFor supp
   counted n = once_or_not pages n (occurs n stands.schema_used + occurs n (used_by (owners_in items)) + occurs n free)
       (λ has. sym (all_used n) ∙ stands.shared.once n has) (each_there n)
 
-  -- ---- tables and indexes
+  -- ---- tables, indexes and views
 
   after_first : AllByRecursion IsAfterFirst items
   after_first =
       let all = counted 1 in
       let one = fresh_once (length pages) 1 in
       let first = root_used pages size own stands.schema.tree in
-      let roots = roots_used pages size db 1 items told_items.each in
-      from_map (λ root. 1 ≡ root → ⊥) root_of items (none_there 1 (roots_in items) (omega (arith, all, one, first, roots)))
+      let roots = roots_used pages size 1 (owners_in items) are_trees in
+      each_after items (none_there 1 (roots_in items) (omega (arith, all, one, first, roots)))
 
   roots_once : (n : ℕ) → occurs n (table_roots (tables_among items)) ≤ 1
   roots_once n =
       let all = counted n in
       let one = fresh_once (length pages) n in
-      let roots = roots_used pages size db n items told_items.each in
+      let roots = roots_used pages size n (owners_in items) are_trees in
       let fewer = fewer_roots n items in
       omega (arith, all, one, roots, fewer)
 
@@ -149,7 +152,7 @@ module _ (pages : PageMap) (size : ℕ) (db : Database) (stands : StandsFor supp
 
   shared : AreShared pages size (own ∷ all_trees (held_by items)) free
   shared = record {
-    trees = (stands.schema.tree, all_reordered (IsTree pages size) (owners_in items) (all_trees (held_by items)) in_tables (trees_in pages size db items told_items.each));
+    trees = (stands.schema.tree, all_reordered (IsTree pages size) (owners_in items) (all_trees (held_by items)) in_tables are_trees);
     has = record { header = stands.header; header_is = stands.headed.header_is; trunks = stands.trunks; listed = stands.freelist; free_is = λ n. refl };
     whole = λ number has. page_long pages size number stands.headed.whole has;
     once = λ n. (
@@ -159,10 +162,10 @@ module _ (pages : PageMap) (size : ℕ) (db : Database) (stands : StandsFor supp
         omega (arith, both, same, all));
   }
 
-  pub stores : Stores pages size (tables_in items) db
+  pub stores : Stores pages size (all_listed items) db
   stores = record {
     rows_at = content_at (tables_among items);
-    of_tables = of_these pages size db items are_objects;
+    of_listed = of_these pages size db items are_objects;
     once = once pages size db items are_objects;
     keys = has_keys pages size db items are_objects;
     header = stands.header;
@@ -183,4 +186,4 @@ module _ (pages : PageMap) (size : ℕ) (db : Database) (stands : StandsFor supp
   }
 
 pub stored_if_standing : StandingStored
-stored_if_standing pages size db stands = (tables_in (told_items pages size db stands).items, stores pages size db stands)
+stored_if_standing pages size db stands = (all_listed (told_items pages size db stands).items, stores pages size db stands)

@@ -1,8 +1,8 @@
--- The rows of the schema table tell the tables and indexes that they list.
+-- The rows of the schema table tell the tables, indexes and views that they list.
 use Rattle.std.proofs.Common.{◌≡◌, ◌<◌, ◌⊎◌, inl, inr, refl, sym, ap, subst, ◌∙◌, ℕ, pos, Bool, true, false, cond, List, [], ◌∷◌, codes, length, map, Option, Some, None, arith}
 use Rattle.std.proofs.lemmas.Bool.{ltb-true, ltb-false}
 use Rattle.std.specs.List.{AllByRecursion}
-use Rattle.std.specs.Prelude.{nat_lt, unwrap_or}
+use Rattle.std.specs.Prelude.{⊤, nat_lt, unwrap_or}
 use Rattle.sqlval.specs.Names.{folded}
 use Rattle.sqlval.specs.declared.value.Value.{Value}
 use Rattle.sqlval.specs.declared.value.Value.TheVariants.{Int, Text}
@@ -23,16 +23,16 @@ use Rattle.query_names.proofs.CreatedTables.{keeps_once}
 use Rattle.query_bind.specs.Indexed.{key_of, keys_known}
 use Rattle.db_files.specs.Schema.{SchemaRow, IsSchemaEntry, sql_value}
 use Rattle.std.specs.FinMap.Entries.{find}
-use Rattle.db_pages.specs.Schema.{HasRowOf, IsIndexRow, IsKeyRow, IsTableRow, Tells, schema_row}
+use Rattle.db_pages.specs.Schema.{HasRowOf, IsIndexRow, IsKeyRow, IsTableRow, IsViewRow, Tells, schema_row}
 use Rattle.db_pages.proofs.StoredNames.{same_named, some_is_none}
 use Rattle.db_pages.proofs.StoredIndexes.{Keys, same_keys}
-use Rattle.db_pages.proofs.StoredListings.{IndexItem, IndexListing, IsEntryOf, IsIndexListing, IsItem, IsListing, IsOfKey, IsOfText, Item, Listing, TableItem, owner_of, row_of, rows_in}
-use Rattle.db_pages.proofs.StoredApart.{Stands, indexes_among, root_of, row_named, tables_among}
+use Rattle.db_pages.proofs.StoredListings.{IndexItem, IndexListing, IsEntryOf, IsIndexListing, IsItem, IsListing, IsOfKey, IsOfText, IsViewListing, Item, Listing, TableItem, ViewItem, index_tree, listed_tree, row_of, rows_in}
+use Rattle.db_pages.proofs.StoredApart.{Stands, indexes_among, roots_in, row_named, tables_among}
 use Rattle.db_pages.proofs.StoredHomes.{HasHome, IsFoundWith, found_with, tables_in, with_indexes}
 use Rattle.db_pages.proofs.StoredObjects.{AreObjects, stand}
 use Rattle.db_pages.proofs.StoredOrders.{no_table, table_for, told_of}
 use Rattle.db_pages.proofs.StoredTreePages.{owner_root_there}
-use Rattle.db_pages.proofs.StoredTrees.{tree_is}
+use Rattle.db_pages.proofs.StoredViews.{ViewListing}
 
 -- ---- the schema's rows
 
@@ -46,9 +46,18 @@ values_so row entry kind sql root kind_is root_is sql_is read =
     (subst (λ (root : ℕ). IsRecord entry.payload (values_with row row.kind root sql)) root_is
     (subst (λ (sql : Option (List ℕ)). IsRecord entry.payload (values_with row row.kind row.root sql)) sql_is read))
 
--- its tree doesn't begin at page 1
+-- its tree, if it has one, doesn't begin at page 1
 abbrev pub IsAfterFirst : Item → Type 0
-IsAfterFirst item = 1 ≡ root_of item → ⊥
+IsAfterFirst (TableItem l) = 1 ≡ l.table.root → ⊥
+IsAfterFirst (IndexItem l) = 1 ≡ l.index.root → ⊥
+IsAfterFirst (ViewItem l) = ⊤
+
+-- no tree begins there where none of the roots is 1
+pub each_after : (items : List Item) → AllByRecursion (λ root. 1 ≡ root → ⊥) (roots_in items) → AllByRecursion IsAfterFirst items
+each_after [] after = tt
+each_after (TableItem l ∷ items) after = (after.0, each_after items after.1)
+each_after (IndexItem l ∷ items) after = (after.0, each_after items after.1)
+each_after (ViewItem l ∷ items) after = (tt, each_after items after)
 
 root_above : (pages : PageMap) (root : ℕ) → Has pages root → (1 ≡ root → ⊥) → 1 < root
 root_above pages root has ne = by_test (nat_lt 1 root) refl
@@ -70,24 +79,22 @@ keys_so : (pages : PageMap) (size : ℕ) (db : Database) (l : Listing) → (is :
 keys_so pages size db l is = subst (HasKeysOf is.says.definition) (sym is.table_is) is.says.keys_are
 
 module _ (pages : PageMap) (size : ℕ) (db : Database) (items : List Item) (are : AreObjects pages size db items) where
-  has_root : (item : Item) → IsItem pages size db item → Has pages (root_of item)
-  has_root item is = owner_root_there pages size (owner_of item) (tree_is pages size db item is)
-
   -- a row has the names of what it tells
-  has_row : (item : Item) (entry : Entry) (kind : List ℕ) (sql : Option (List ℕ)) (own_name on_table : Name) → IsItem pages size db item → IsAfterFirst item → IsSchemaEntry entry (row_of item)
-      → folded (row_of item).name ≡ folded own_name → folded (row_of item).table ≡ folded on_table → (row_of item).kind ≡ kind → (row_of item).root ≡ root_of item → (row_of item).sql ≡ sql
-      → HasRowOf (length pages) kind own_name on_table (root_of item) sql entry
-  has_row item entry kind sql own_name on_table is after read name_is table_is kind_is root_is sql_is =
-      let there = has_root item is in
-      record {
-        above = root_above pages (root_of item) there after;
-        within = there.last;
-        name = (row_of item).name;
-        name_is = name_is;
-        table_name = (row_of item).table;
-        table_name_is = table_is;
-        row_is = values_so (row_of item) entry kind sql (root_of item) kind_is root_is sql_is read;
-      }
+  has_row : (row : SchemaRow) (root : ℕ) (entry : Entry) (kind : List ℕ) (sql : Option (List ℕ)) (own_name on_table : Name) → Has pages root → (1 ≡ root → ⊥) → IsSchemaEntry entry row
+      → folded row.name ≡ folded own_name → folded row.table ≡ folded on_table → row.kind ≡ kind → row.root ≡ root → row.sql ≡ sql
+      → HasRowOf (length pages) kind own_name on_table root sql entry
+  has_row row root entry kind sql own_name on_table there after read name_is table_is kind_is root_is sql_is = record {
+    above = root_above pages root there after;
+    within = there.last;
+    name = row.name;
+    name_is = name_is;
+    table_name = row.table;
+    table_name_is = table_is;
+    row_is = values_so row entry kind sql root kind_is root_is sql_is read;
+  }
+
+  index_root : (i : IndexListing) → IsIndexListing pages size db i → Has pages i.index.root
+  index_root i is = owner_root_there pages size (index_tree i) is.tree
 
   table_row : (l : Listing) (entry : Entry) → IsListing pages size db l → IsAfterFirst (TableItem l) → IsSchemaEntry entry l.row → IsEntryOf entry (TableItem l)
       → IsTableRow (length pages) (with_indexes (indexes_among items) l) entry
@@ -104,7 +111,7 @@ module _ (pages : PageMap) (size : ℕ) (db : Database) (items : List Item) (are
       keys = keys_so pages size db l is;
     };
     rowid_is = at;
-    row_is = has_row (TableItem l) entry (codes "table") (Some is.says.sql) is.says.definition.name is.says.definition.name is after read is.says.name_is is.says.table_is is.says.kind_is
+    row_is = has_row l.row l.table.root entry (codes "table") (Some is.says.sql) is.says.definition.name is.says.definition.name (owner_root_there pages size (listed_tree l) is.tree) after read is.says.name_is is.says.table_is is.says.kind_is
         (sym (ap (λ (t : Table). t.root) is.table_is)) is.says.sql_is;
   }
 
@@ -134,7 +141,7 @@ module _ (pages : PageMap) (size : ℕ) (db : Database) (items : List Item) (are
       columns = same_keys_known l i table text on;
     };
     rowid_is = at;
-    row_is = has_row (IndexItem i) entry (codes "index") (Some text.says.sql) text.says.definition.name text.says.definition.table is after read text.says.name_is text.says.table_is text.says.kind_is
+    row_is = has_row i.row i.index.root entry (codes "index") (Some text.says.sql) text.says.definition.name text.says.definition.table (index_root i is) after read text.says.name_is text.says.table_is text.says.kind_is
         (sym (ap (λ (j : Index). j.root) text.index_is)) text.says.sql_is;
   }
 
@@ -143,7 +150,21 @@ module _ (pages : PageMap) (size : ℕ) (db : Database) (items : List Item) (are
   key_row i entry l on is key after read at = record {
     automatic = key.automatic;
     rowid_is = at;
-    row_is = has_row (IndexItem i) entry (codes "index") None i.index.name l.table.name is after read is.name_is (key.table_is ∙ sym on) key.kind_is key.root_is key.sql_is;
+    row_is = has_row i.row i.index.root entry (codes "index") None i.index.name l.table.name (index_root i is) after read is.name_is (key.table_is ∙ sym on) key.kind_is key.root_is key.sql_is;
+  }
+
+  view_row : (l : ViewListing) (entry : Entry) → IsViewListing db l → IsSchemaEntry entry l.row → IsEntryOf entry (ViewItem l) → IsViewRow l.view entry
+  view_row l entry is read at = record {
+    sql = is.says.sql;
+    creates = is.says.creates;
+    free = is.says.free;
+    once = is.says.once;
+    rowid_is = at;
+    name = l.row.name;
+    name_is = is.says.name_is;
+    table_name = l.row.table;
+    table_name_is = is.says.table_is;
+    row_is = values_so l.row entry (codes "view") (Some is.says.sql) 0 is.says.kind_is is.says.root_is is.says.sql_is read;
   }
 
   told_row : (item : Item) (entry : Entry) → IsItem pages size db item → HasHome items item → IsAfterFirst item → IsSchemaEntry entry (row_of item) → IsEntryOf entry item
@@ -160,6 +181,7 @@ module _ (pages : PageMap) (size : ℕ) (db : Database) (items : List Item) (are
           → IsIndexRow (length pages) (with_indexes (indexes_among items) l) i.index entry ⊎ IsKeyRow (length pages) (with_indexes (indexes_among items) l) i.index entry
       by_row l table on (inl text) = inl (index_row i entry l table on is text after read at)
       by_row l table on (inr key) = inr (key_row i entry l on is key after read at)
+  told_row (ViewItem l) entry is home after read at = view_row l entry is read at
 
   pub rows_told : (some : List Item) (entries : List Entry) → AllByRecursion (IsItem pages size db) some → AllByRecursion (HasHome items) some → AllByRecursion IsAfterFirst some
       → Pairwise IsSchemaEntry entries (rows_in some) → Pairwise IsEntryOf entries some → Pairwise (Tells (length pages)) (map (told_of items) some) entries

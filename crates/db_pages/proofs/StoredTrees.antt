@@ -19,32 +19,30 @@ use Rattle.db_layout.specs.Trees.{IsEntriesTree, columns_of}
 use Rattle.db_pages.specs.Stored.{AreHeld}
 use Rattle.db_pages.proofs.StoredNames.{named_same}
 use Rattle.db_pages.proofs.StoredShares.{theirs}
-use Rattle.db_pages.proofs.StoredListings.{IndexItem, IndexListing, IsIndexListing, IsItem, Item, Listing, TableItem, index_tree, listed_tree, owner_of, owners_in}
-use Rattle.db_pages.proofs.StoredApart.{Stands, all_so, content_at, root_of, roots_in, row_named}
+use Rattle.db_pages.proofs.StoredListings.{IndexItem, IndexListing, IsIndexListing, IsItem, Item, Listing, TableItem, ViewItem, index_tree, listed_tree, owners_in}
+use Rattle.db_pages.proofs.StoredApart.{Stands, all_so, content_at, row_named}
 use Rattle.db_pages.proofs.StoredHomes.{all_theirs, is_on, with_indexes}
 use Rattle.db_pages.proofs.StoredTreePages.{owner_there, root_used}
 
--- the pages hold it
-pub tree_is : (pages : PageMap) (size : ℕ) (db : Database) (item : Item) → IsItem pages size db item → IsTree pages size (owner_of item)
-tree_is pages size db (TableItem l) is = is.tree
-tree_is pages size db (IndexItem l) is = is.tree
-
+-- the pages hold the trees of all
 pub trees_in : (pages : PageMap) (size : ℕ) (db : Database) (items : List Item) → AllByRecursion (IsItem pages size db) items → AllByRecursion (IsTree pages size) (owners_in items)
 trees_in pages size db [] each = tt
-trees_in pages size db (item ∷ items) each = (tree_is pages size db item each.0, trees_in pages size db items each.1)
+trees_in pages size db (TableItem l ∷ items) each = (each.0.tree, trees_in pages size db items each.1)
+trees_in pages size db (IndexItem l ∷ items) each = (each.0.tree, trees_in pages size db items each.1)
+trees_in pages size db (ViewItem l ∷ items) each = trees_in pages size db items each.1
 
 one_at : (n m : ℕ) (if_same : Bool) → (m == n) ≡ if_same → (c : ℕ) → (n ≡ m → 1 ≤ c) → cond {A = ℕ} if_same 1 0 ≤ c
 one_at n m true e c has = has (grind (arith, nat_tests))
 one_at n m false e c has = omega arith
 
 -- each root is used by its tree
-pub roots_used : (pages : PageMap) (size : ℕ) (db : Database) (n : ℕ) (items : List Item) → AllByRecursion (IsItem pages size db) items → occurs n (roots_in items) ≤ occurs n (used_by (owners_in items))
-roots_used pages size db n [] each = omega arith
-roots_used pages size db n (item ∷ items) each =
-    let rest = roots_used pages size db n items each.1 in
-    let sum = occurs_append n (owner_of item).used (used_by (owners_in items)) in
-    let here : cond {A = ℕ} (root_of item == n) 1 0 ≤ occurs n (owner_of item).used = one_at n (root_of item) (root_of item == n) refl (occurs n (owner_of item).used)
-    (λ same. subst (λ (k : ℕ). 1 ≤ occurs k (owner_of item).used) (sym same) (root_used pages size (owner_of item) (tree_is pages size db item each.0))) in
+pub roots_used : (pages : PageMap) (size : ℕ) (n : ℕ) (owners : List Owner) → AllByRecursion (IsTree pages size) owners → occurs n (map (λ owner. owner.root) owners) ≤ occurs n (used_by owners)
+roots_used pages size n [] each = omega arith
+roots_used pages size n (owner ∷ owners) each =
+    let rest = roots_used pages size n owners each.1 in
+    let sum = occurs_append n owner.used (used_by owners) in
+    let here : cond {A = ℕ} (owner.root == n) 1 0 ≤ occurs n owner.used = one_at n owner.root (owner.root == n) refl (occurs n owner.used)
+    (λ same. subst (λ (k : ℕ). 1 ≤ occurs k owner.used) (sym same) (root_used pages size owner each.0)) in
     omega (arith, rest, sum, here)
 
 -- what they use is there

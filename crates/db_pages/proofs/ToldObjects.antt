@@ -1,4 +1,4 @@
--- What rows tell, as the objects of a database: in whatever order the rows stand, each table and index is found under its own name.
+-- What rows tell, as the objects of a database: in whatever order the rows stand, each table, index and view is found under its own name.
 use Rattle.std.proofs.Common.{◌≡◌, ◌∙◌, refl, sym, ap, ℕ, ℤ, List, [], ◌∷◌, ◌++◌, map, Some}
 use Rattle.std.specs.Prelude.{flat_map}
 use Rattle.std.specs.List.{AllByRecursion}
@@ -6,13 +6,14 @@ use Rattle.std.proofs.lemmas.List.{append_assoc}
 use Rattle.sqlval.specs.Lists.{sorted}
 use Rattle.sqlval.specs.Names.{folded}
 use Rattle.sqlval.specs.declared.value.Value.{Value}
-use Rattle.catalog.specs.Database.{ATable, AnIndex, Database, Name, Object, name_order, object}
-use Rattle.catalog.specs.Listed.{index_objects, named_among, objects_of, as_index, with_rows, table_object}
-use Rattle.catalog.specs.Named.{IsOfTables}
+use Rattle.catalog.specs.Database.{ATable, AnIndex, AView, Database, Name, Object, name_order, object}
+use Rattle.catalog.specs.Listed.{Listed, index_objects, named_among, objects_of, as_index, as_view, with_rows, table_object, view_object}
+use Rattle.catalog.specs.Named.{IsOfListed}
 use Rattle.catalog.specs.declared.tables.Index.{Index}
 use Rattle.catalog.specs.declared.tables.Table.{Table}
+use Rattle.catalog.specs.declared.tables.View.{View}
 use Rattle.db_pages.specs.Reordering.{AreReordered}
-use Rattle.db_pages.specs.Schema.{IndexTold, TableTold, Told, all_told, told_by}
+use Rattle.db_pages.specs.Schema.{IndexTold, TableTold, Told, ViewTold, all_told, tables_told, told_by}
 use Rattle.db_pages.proofs.NamedObjects.{HaveOwnNames, each_found, folded_names, named_reordered, names_sorted, objects_apart}
 use Rattle.db_pages.proofs.Reordering.{all_reordered, reordered_both, reordered_front, reordered_is, reordered_map, reordered_refl, reordered_swapped, reordered_sym, reordered_trans, is_reordered}
 use Rattle.db_pages.proofs.ReorderedSorted.{reordered_sorted}
@@ -21,11 +22,13 @@ use Rattle.db_pages.proofs.ReorderedSorted.{reordered_sorted}
 abbrev pub told_name : Told → Name
 told_name (TableTold t) = t.name
 told_name (IndexTold t i) = i.name
+told_name (ViewTold v) = v.definition.name
 
 -- the object that it tells, where these are the rows under each root
 abbrev pub told_object : (ℕ → List (ℤ × List Value)) → Told → Object
 told_object rows_at (TableTold t) = ATable (with_rows t (rows_at t.root))
 told_object rows_at (IndexTold t i) = AnIndex (as_index t i)
+told_object rows_at (ViewTold v) = AView (as_view v)
 
 abbrev pub told_pair : (ℕ → List (ℤ × List Value)) → Told → Name × Object
 told_pair rows_at told = (told_name told, told_object rows_at told)
@@ -34,8 +37,9 @@ told_pair rows_at told = (told_name told, told_object rows_at told)
 abbrev pub IsKept : (ℕ → List (ℤ × List Value)) → Database → Told → Type 0
 IsKept rows_at db (TableTold t) = object db t.name ≡ Some (ATable (with_rows t (rows_at t.root)))
 IsKept rows_at db (IndexTold t i) = (object db i.name ≡ Some (AnIndex (as_index t i))) × (object db t.name ≡ Some (ATable (with_rows t (rows_at t.root))))
+IsKept rows_at db (ViewTold v) = object db v.definition.name ≡ Some (AView (as_view v))
 
--- ---- all tables and indexes are the objects, in another order
+-- ---- all that is told is the objects, in another order
 
 pairs_both : (rows_at : ℕ → List (ℤ × List Value)) (xs ys : List Told) → map (told_pair rows_at) (xs ++ ys) ≡ map (told_pair rows_at) xs ++ map (told_pair rows_at) ys
 pairs_both rows_at [] ys = refl
@@ -46,13 +50,15 @@ index_pairs : (rows_at : ℕ → List (ℤ × List Value)) (t : Table) (is : Lis
 index_pairs rows_at t [] = refl
 index_pairs rows_at t (i ∷ is) = ap (λ ls. (i.name, AnIndex (as_index t i)) ∷ ls) (index_pairs rows_at t is)
 
-pub told_objects : (rows_at : ℕ → List (ℤ × List Value)) (tables : List Table) → AreReordered (map (told_pair rows_at) (all_told tables)) (objects_of rows_at tables)
-told_objects rows_at [] = refl
-told_objects rows_at (t ∷ ts) =
-    reordered_front (table_object rows_at t) (map (told_pair rows_at) (map (λ (i : Index). IndexTold t i) t.indexes ++ all_told ts)) (tables ++ (mine ++ others))
-    (is_reordered (mine ++ map (told_pair rows_at) (all_told ts)) (map (told_pair rows_at) (map (λ (i : Index). IndexTold t i) t.indexes ++ all_told ts)) (tables ++ (mine ++ others)) front
-    (reordered_trans (mine ++ map (told_pair rows_at) (all_told ts)) (mine ++ (tables ++ others)) (tables ++ (mine ++ others))
-    (reordered_both mine mine (map (told_pair rows_at) (all_told ts)) (tables ++ others) (reordered_refl mine) (told_objects rows_at ts)) turn))
+-- of each table with its indexes, the tables and then the indexes
+tables_pairs : (rows_at : ℕ → List (ℤ × List Value)) (tables : List Table)
+    → AreReordered (map (told_pair rows_at) (tables_told tables)) (map (table_object rows_at) tables ++ flat_map index_objects tables)
+tables_pairs rows_at [] = refl
+tables_pairs rows_at (t ∷ ts) =
+    reordered_front (table_object rows_at t) (map (told_pair rows_at) (map (λ (i : Index). IndexTold t i) t.indexes ++ tables_told ts)) (tables ++ (mine ++ others))
+    (is_reordered (mine ++ map (told_pair rows_at) (tables_told ts)) (map (told_pair rows_at) (map (λ (i : Index). IndexTold t i) t.indexes ++ tables_told ts)) (tables ++ (mine ++ others)) front
+    (reordered_trans (mine ++ map (told_pair rows_at) (tables_told ts)) (mine ++ (tables ++ others)) (tables ++ (mine ++ others))
+    (reordered_both mine mine (map (told_pair rows_at) (tables_told ts)) (tables ++ others) (reordered_refl mine) (tables_pairs rows_at ts)) turn))
   where
     mine : List (Name × Object)
     mine = index_objects t
@@ -63,8 +69,8 @@ told_objects rows_at (t ∷ ts) =
     others : List (Name × Object)
     others = flat_map index_objects ts
 
-    front : mine ++ map (told_pair rows_at) (all_told ts) ≡ map (told_pair rows_at) (map (λ (i : Index). IndexTold t i) t.indexes ++ all_told ts)
-    front = sym (pairs_both rows_at (map (λ (i : Index). IndexTold t i) t.indexes) (all_told ts) ∙ ap (λ ls. ls ++ map (told_pair rows_at) (all_told ts)) (index_pairs rows_at t t.indexes))
+    front : mine ++ map (told_pair rows_at) (tables_told ts) ≡ map (told_pair rows_at) (map (λ (i : Index). IndexTold t i) t.indexes ++ tables_told ts)
+    front = sym (pairs_both rows_at (map (λ (i : Index). IndexTold t i) t.indexes) (tables_told ts) ∙ ap (λ ls. ls ++ map (told_pair rows_at) (tables_told ts)) (index_pairs rows_at t t.indexes))
 
     turn : AreReordered (mine ++ (tables ++ others)) (tables ++ (mine ++ others))
     turn =
@@ -72,13 +78,38 @@ told_objects rows_at (t ∷ ts) =
         (reordered_is ((mine ++ tables) ++ others) ((tables ++ mine) ++ others) (tables ++ (mine ++ others)) (append_assoc tables mine others)
         (reordered_both (mine ++ tables) (tables ++ mine) others others (reordered_swapped mine tables) (reordered_refl others)))
 
+view_pairs : (rows_at : ℕ → List (ℤ × List Value)) (views : List View) → map (told_pair rows_at) (map ViewTold views) ≡ map view_object views
+view_pairs rows_at [] = refl
+view_pairs rows_at (v ∷ vs) = ap (λ ls. view_object v ∷ ls) (view_pairs rows_at vs)
+
+-- and the views, which stand between them
+pub told_objects : (rows_at : ℕ → List (ℤ × List Value)) (l : Listed) → AreReordered (map (told_pair rows_at) (all_told l)) (objects_of rows_at l)
+told_objects rows_at l =
+    is_reordered (map (told_pair rows_at) (tables_told l.tables) ++ views) (map (told_pair rows_at) (all_told l)) (objects_of rows_at l) apart
+    (reordered_trans (map (told_pair rows_at) (tables_told l.tables) ++ views) ((tables ++ indexes) ++ views) (objects_of rows_at l)
+    (reordered_both (map (told_pair rows_at) (tables_told l.tables)) (tables ++ indexes) views views (tables_pairs rows_at l.tables) (reordered_refl views))
+    (is_reordered (tables ++ (indexes ++ views)) ((tables ++ indexes) ++ views) (objects_of rows_at l) (sym (append_assoc tables indexes views))
+    (reordered_both tables tables (indexes ++ views) (views ++ indexes) (reordered_refl tables) (reordered_swapped indexes views))))
+  where
+    tables : List (Name × Object)
+    tables = map (table_object rows_at) l.tables
+
+    views : List (Name × Object)
+    views = map view_object l.views
+
+    indexes : List (Name × Object)
+    indexes = flat_map index_objects l.tables
+
+    apart : map (told_pair rows_at) (tables_told l.tables) ++ views ≡ map (told_pair rows_at) (all_told l)
+    apart = sym (pairs_both rows_at (tables_told l.tables) (map ViewTold l.views) ∙ ap (λ ls. map (told_pair rows_at) (tables_told l.tables) ++ ls) (view_pairs rows_at l.views))
+
 -- ---- what holds of each
 
 all_both : {A : Type 0} (P : A → Type 0) (xs ys : List A) → AllByRecursion P xs → AllByRecursion P ys → AllByRecursion P (xs ++ ys)
 all_both P [] ys all more = more
 all_both P (x ∷ xs) ys all more = (all.0, all_both P xs ys all.1 more)
 
-all_first : {A : Type 0} (P : A → Type 0) (xs ys : List A) → AllByRecursion P (xs ++ ys) → AllByRecursion P xs
+pub all_first : {A : Type 0} (P : A → Type 0) (xs ys : List A) → AllByRecursion P (xs ++ ys) → AllByRecursion P xs
 all_first P [] ys all = tt
 all_first P (x ∷ xs) ys all = (all.0, all_first P xs ys all.1)
 
@@ -103,53 +134,65 @@ kept_indexes : (rows_at : ℕ → List (ℤ × List Value)) (db : Database) (t :
 kept_indexes rows_at db t [] on found = tt
 kept_indexes rows_at db t (i ∷ is) on found = ((found.0, on), kept_indexes rows_at db t is on found.1)
 
-kept_all : (rows_at : ℕ → List (ℤ × List Value)) (db : Database) (tables : List Table) → AllByRecursion (IsFound rows_at db) (all_told tables) → AllByRecursion (IsKept rows_at db) (all_told tables)
-kept_all rows_at db [] found = tt
-kept_all rows_at db (t ∷ ts) found =
-    let mine = all_first (IsFound rows_at db) (told_by t) (all_told ts) found in
-    let others = all_second (IsFound rows_at db) (told_by t) (all_told ts) found in
-    all_both (IsKept rows_at db) (told_by t) (all_told ts) (mine.0, kept_indexes rows_at db t t.indexes mine.0 mine.1) (kept_all rows_at db ts others)
+kept_tables : (rows_at : ℕ → List (ℤ × List Value)) (db : Database) (tables : List Table) → AllByRecursion (IsFound rows_at db) (tables_told tables)
+    → AllByRecursion (IsKept rows_at db) (tables_told tables)
+kept_tables rows_at db [] found = tt
+kept_tables rows_at db (t ∷ ts) found =
+    let mine = all_first (IsFound rows_at db) (told_by t) (tables_told ts) found in
+    let others = all_second (IsFound rows_at db) (told_by t) (tables_told ts) found in
+    all_both (IsKept rows_at db) (told_by t) (tables_told ts) (mine.0, kept_indexes rows_at db t t.indexes mine.0 mine.1) (kept_tables rows_at db ts others)
 
--- ---- tables in a database
+kept_views : (rows_at : ℕ → List (ℤ × List Value)) (db : Database) (views : List View) → AllByRecursion (IsFound rows_at db) (map ViewTold views)
+    → AllByRecursion (IsKept rows_at db) (map ViewTold views)
+kept_views rows_at db [] found = tt
+kept_views rows_at db (v ∷ vs) found = (found.0, kept_views rows_at db vs found.1)
 
-module _ (rows_at : ℕ → List (ℤ × List Value)) (tables : List Table) (db : Database) (of_tables : IsOfTables rows_at tables db) (told : List Told) (all : AreReordered told (all_told tables)) where
-  own : HaveOwnNames (objects_of rows_at tables)
-  own = objects_apart rows_at tables of_tables.once
+kept_all : (rows_at : ℕ → List (ℤ × List Value)) (db : Database) (l : Listed) → AllByRecursion (IsFound rows_at db) (all_told l) → AllByRecursion (IsKept rows_at db) (all_told l)
+kept_all rows_at db l found =
+    all_both (IsKept rows_at db) (tables_told l.tables) (map ViewTold l.views)
+    (kept_tables rows_at db l.tables (all_first (IsFound rows_at db) (tables_told l.tables) (map ViewTold l.views) found))
+    (kept_views rows_at db l.views (all_second (IsFound rows_at db) (tables_told l.tables) (map ViewTold l.views) found))
 
-  -- what rows tell are the objects of the tables, in another order
-  objects_told : AreReordered (objects_of rows_at tables) (map (told_pair rows_at) told)
+-- ---- what is listed, in a database
+
+module _ (rows_at : ℕ → List (ℤ × List Value)) (l : Listed) (db : Database) (of_listed : IsOfListed rows_at l db) (told : List Told) (all : AreReordered told (all_told l)) where
+  own : HaveOwnNames (objects_of rows_at l)
+  own = objects_apart rows_at l of_listed.once
+
+  -- what rows tell are the listed objects, in another order
+  objects_told : AreReordered (objects_of rows_at l) (map (told_pair rows_at) told)
   objects_told =
-      reordered_sym (map (told_pair rows_at) told) (objects_of rows_at tables)
-      (reordered_trans (map (told_pair rows_at) told) (map (told_pair rows_at) (all_told tables)) (objects_of rows_at tables)
-      (reordered_map (told_pair rows_at) told (all_told tables) all) (told_objects rows_at tables))
+      reordered_sym (map (told_pair rows_at) told) (objects_of rows_at l)
+      (reordered_trans (map (told_pair rows_at) told) (map (told_pair rows_at) (all_told l)) (objects_of rows_at l)
+      (reordered_map (told_pair rows_at) told (all_told l) all) (told_objects rows_at l))
 
   -- a name finds the one that tells it
   pub told_finds : (name : Name) → object db name ≡ named_among name (map (told_pair rows_at) told)
-  told_finds name = of_tables.lists name ∙ named_reordered name (objects_of rows_at tables) (map (told_pair rows_at) told) own objects_told
+  told_finds name = of_listed.lists name ∙ named_reordered name (objects_of rows_at l) (map (told_pair rows_at) told) own objects_told
 
-  objects_found : AllByRecursion (λ (o : Name × Object). object db o.0 ≡ Some o.1) (objects_of rows_at tables)
+  objects_found : AllByRecursion (λ (o : Name × Object). object db o.0 ≡ Some o.1) (objects_of rows_at l)
   objects_found =
-      all_then (λ (o : Name × Object). named_among o.0 (objects_of rows_at tables) ≡ Some o.1) (λ (o : Name × Object). object db o.0 ≡ Some o.1)
-      (λ o is. of_tables.lists o.0 ∙ is) (objects_of rows_at tables) (each_found (objects_of rows_at tables) own)
+      all_then (λ (o : Name × Object). named_among o.0 (objects_of rows_at l) ≡ Some o.1) (λ (o : Name × Object). object db o.0 ≡ Some o.1)
+      (λ o is. of_listed.lists o.0 ∙ is) (objects_of rows_at l) (each_found (objects_of rows_at l) own)
 
-  all_found : AllByRecursion (IsFound rows_at db) (all_told tables)
+  all_found : AllByRecursion (IsFound rows_at db) (all_told l)
   all_found =
-      all_from (IsFound rows_at db) (λ (o : Name × Object). object db o.0 ≡ Some o.1) (told_pair rows_at) (λ one is. is) (all_told tables)
-      (all_reordered (λ (o : Name × Object). object db o.0 ≡ Some o.1) (objects_of rows_at tables) (map (told_pair rows_at) (all_told tables))
-      (reordered_sym (map (told_pair rows_at) (all_told tables)) (objects_of rows_at tables) (told_objects rows_at tables)) objects_found)
+      all_from (IsFound rows_at db) (λ (o : Name × Object). object db o.0 ≡ Some o.1) (told_pair rows_at) (λ one is. is) (all_told l)
+      (all_reordered (λ (o : Name × Object). object db o.0 ≡ Some o.1) (objects_of rows_at l) (map (told_pair rows_at) (all_told l))
+      (reordered_sym (map (told_pair rows_at) (all_told l)) (objects_of rows_at l) (told_objects rows_at l)) objects_found)
 
-  -- each table and index that a row tells is in the database
+  -- each table, index and view that a row tells is in the database
   pub told_kept : AllByRecursion (IsKept rows_at db) told
-  told_kept = all_reordered (IsKept rows_at db) (all_told tables) told (reordered_sym told (all_told tables) all) (kept_all rows_at db tables all_found)
+  told_kept = all_reordered (IsKept rows_at db) (all_told l) told (reordered_sym told (all_told l) all) (kept_all rows_at db l all_found)
 
   -- their names, in order, are those of the database
   pub told_names : sorted name_order (map (λ one. folded (told_name one)) told) ≡ map (λ o. o.0) db
   told_names =
       ap (sorted name_order) (names_of_pairs told)
-      ∙ reordered_sorted (folded_names (map (told_pair rows_at) told)) (folded_names (objects_of rows_at tables))
-      (reordered_map (λ (o : Name × Object). folded o.0) (map (told_pair rows_at) told) (objects_of rows_at tables)
-      (reordered_sym (objects_of rows_at tables) (map (told_pair rows_at) told) objects_told))
-      ∙ names_sorted (objects_of rows_at tables) db own of_tables.named of_tables.lists
+      ∙ reordered_sorted (folded_names (map (told_pair rows_at) told)) (folded_names (objects_of rows_at l))
+      (reordered_map (λ (o : Name × Object). folded o.0) (map (told_pair rows_at) told) (objects_of rows_at l)
+      (reordered_sym (objects_of rows_at l) (map (told_pair rows_at) told) objects_told))
+      ∙ names_sorted (objects_of rows_at l) db own of_listed.named of_listed.lists
     where
       names_of_pairs : (ones : List Told) → map (λ one. folded (told_name one)) ones ≡ folded_names (map (told_pair rows_at) ones)
       names_of_pairs [] = refl

@@ -1,6 +1,6 @@
--- The rows of the schema table: each has the text of a CREATE TABLE or of a CREATE INDEX, or it is that of an automatic index, without a text
+-- The rows of the schema table: each has the text of a CREATE TABLE, CREATE INDEX or CREATE VIEW, or it is that of an automatic index, without a text
 -- (Database File Format, "Storage Of The SQL Database Schema").
-use Rattle.std.specs.Prelude.{◌≡◌, ◌⊎◌, ◌<◌, ◌≤◌, true, false, ℕ, pos, codes, List, [], ◌∷◌, Option, Some, None, filter, flat_map, length, map}
+use Rattle.std.specs.Prelude.{◌≡◌, ◌⊎◌, ◌<◌, ◌≤◌, true, false, ℕ, pos, codes, List, [], ◌∷◌, ◌++◌, Option, Some, None, filter, flat_map, length, map}
 use Rattle.sqlval.specs.Names.{folded}
 use Rattle.sqlval.specs.declared.value.Value.{Value}
 use Rattle.sqlval.specs.declared.value.Value.TheVariants.{Int, Text}
@@ -15,9 +15,10 @@ use Rattle.sql_syntax.specs.declared.statement.Statement.TheVariants as statemen
 use Rattle.sql_grammar.specs.NewObjects.{is_object_within}
 use Rattle.sql_grammar.specs.Texts.{IsStatementText}
 use Rattle.catalog.specs.Database.{AnIndex, Name, Object}
-use Rattle.catalog.specs.Listed.{as_index, is_reserved, key_columns}
+use Rattle.catalog.specs.Listed.{Listed, as_index, is_reserved, key_columns, names_listed}
 use Rattle.catalog.specs.declared.tables.Index.{Index}
 use Rattle.catalog.specs.declared.tables.Table.{Table}
+use Rattle.catalog.specs.declared.tables.View.{View}
 use Rattle.query_names.specs.Checked.{good}
 use Rattle.query_names.specs.Creating.{HasChecksOf, HasColumnsOf, HasKeysOf, has_doubled}
 use Rattle.query_names.specs.Schema.{automatic}
@@ -114,25 +115,45 @@ pub record IsKeyRow (pages : ℕ) (table : Table) (index : Index) (row : Entry) 
   pub rowid_is : row.rowid ≡ index.rowid
   pub row_is : HasRowOf pages (codes "index") index.name table.name index.root None row
 
--- what a row tells: a table, or an index of one
+-- The row, at the rowid that the view has for it, tells the view: it has the text of a CREATE VIEW that is supported, whose name may be given
+-- and lists no name twice, its name twice in letters of either case, and no page.
+pub record IsViewRow (view : View) (row : Entry) : Type 0 where
+  pub sql : List ℕ
+  pub creates : CreatesSupported sql (new.View view.definition)
+  pub free : is_reserved view.definition.name ≡ false
+  pub once : is_doubled (names_listed view.definition) ≡ false
+  pub rowid_is : row.rowid ≡ view.rowid
+  pub name : Name
+  pub name_is : folded name ≡ folded view.definition.name
+  pub table_name : Name
+  pub table_name_is : folded table_name ≡ folded view.definition.name
+  pub row_is : IsRecord row.payload (schema_row (codes "view") name table_name 0 (Some sql))
+
+-- what a row tells: a table, an index of one, or a view
 pub data Told : Type 0 where
   TableTold : Table → Told
   IndexTold : Table → Index → Told
+  ViewTold : View → Told
 
 abbrev pub told_by : Table → List Told
 told_by table = TableTold table ∷ map (λ index. IndexTold table index) table.indexes
 
 -- all tables and their indexes
-abbrev pub all_told : List Table → List Told
-all_told tables = flat_map told_by tables
+abbrev pub tables_told : List Table → List Told
+tables_told tables = flat_map told_by tables
+
+-- all that is listed
+abbrev pub all_told : Listed → List Told
+all_told l = tables_told l.tables ++ map ViewTold l.views
 
 -- the row tells it, in a database of so many pages
 abbrev pub Tells : ℕ → Told → Entry → Type 0
 Tells pages (TableTold table) row = IsTableRow pages table row
 Tells pages (IndexTold table index) row = IsIndexRow pages table index row ⊎ IsKeyRow pages table index row
+Tells pages (ViewTold view) row = IsViewRow view row
 
--- Each row tells one of the tables and indexes, and each of these is told by one row, in whatever order.
-pub record AreRowsOf (pages : ℕ) (tables : List Table) (rows : List Entry) : Type 0 where
+-- Each row tells one of the tables, indexes and views, and each of these is told by one row, in whatever order.
+pub record AreRowsOf (pages : ℕ) (l : Listed) (rows : List Entry) : Type 0 where
   pub told : List Told
-  pub all : AreReordered told (all_told tables)
+  pub all : AreReordered told (all_told l)
   pub each : Pairwise (Tells pages) told rows

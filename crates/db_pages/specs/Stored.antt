@@ -1,4 +1,4 @@
--- Which database the pages of a file hold whose tables and indexes are listed (Database File Format, "The Database File").
+-- Which database the pages of a file hold whose tables, indexes and views are listed (Database File Format, "The Database File").
 use Rattle.std.specs.Prelude.{◌≡◌, ⊤, ℕ, true, List, ◌∷◌, flat_map, length, MatchOption}
 use Rattle.std.specs.List.{AllByRecursion}
 use Rattle.db_header.specs.Header.{IsHeader, counted_of}
@@ -9,8 +9,8 @@ use Rattle.tree_page.specs.Cells.{Pairwise}
 use Rattle.db_layout.specs.Layout.{AreShared, OfRows, Owner}
 use Rattle.db_layout.specs.Trees.{AreTreesOf}
 use Rattle.catalog.specs.Database.{Database}
-use Rattle.catalog.specs.Listed.{with_rows}
-use Rattle.catalog.specs.Named.{IsOfTables}
+use Rattle.catalog.specs.Listed.{Listed, with_rows}
+use Rattle.catalog.specs.Named.{IsOfListed}
 use Rattle.catalog.specs.Rows.{are_rows}
 use Rattle.catalog.specs.declared.tables.Table.{Table}
 use Rattle.query_names.specs.Bound.{AreOnce}
@@ -30,22 +30,22 @@ pub record AreHeld (rows_at : ℕ → List TableRow) (table : Table) (trees : Li
 abbrev pub all_trees : List (List Owner) → List Owner
 all_trees held = flat_map (λ trees. trees) held
 
--- The pages, each of this size, hold the database of these tables and their indexes: a header, the schema table, whose rows tell the tables
--- and indexes, a tree for each of them, and the freelist. Each page is used once.
-pub record Stores (map : PageMap) (size : ℕ) (tables : List Table) (db : Database) : Type 0 where
+-- The pages, each of this size, hold the database of what is listed: a header, the schema table, whose rows tell the tables, indexes and views,
+-- a tree for each table and index, and the freelist. Each page is used once.
+pub record Stores (map : PageMap) (size : ℕ) (l : Listed) (db : Database) : Type 0 where
   pub rows_at : ℕ → List TableRow
-  pub of_tables : IsOfTables rows_at tables db
-  pub once : AreOnce tables
-  pub keys : AllByRecursion HasKeyIndexes tables
+  pub of_listed : IsOfListed rows_at l db
+  pub once : AreOnce l.tables
+  pub keys : AllByRecursion HasKeyIndexes l.tables
   pub header : Header
   pub header_is : IsHeader (page_at map 1) header
   pub sized : header.page_size ≡ size
   pub schema : List Entry
   pub schema_used : List ℕ
-  pub tell : AreRowsOf (length map) tables schema
+  pub tell : AreRowsOf (length map) l schema
   pub held : List (List Owner)
   pub free : List ℕ
-  pub each : Pairwise (AreHeld rows_at) tables held
+  pub each : Pairwise (AreHeld rows_at) l.tables held
   pub shared : AreShared map size (schema_tree schema schema_used ∷ all_trees held) free
 
 -- The header on page 1 counts the pages, where its count holds (Database File Format, "In-header database size").

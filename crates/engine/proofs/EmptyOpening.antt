@@ -27,6 +27,7 @@ use Rattle.pages.specs.Counting.{fresh}
 use Rattle.pages.specs.Map.{Has, page_at}
 use Rattle.pager.specs.Maps.{pages_in}
 use Rattle.pager.proofs.Mapping.{count_to, maps_shown}
+use Rattle.catalog.specs.Listed.{Listed}
 use Rattle.catalog.specs.declared.tables.Table.{Table}
 use Rattle.std.proofs.lemmas.Grind.{common_steps}
 use Rattle.engine.specs.Creating.{IsEmptyDatabase, is_blank_content, is_zero_byte}
@@ -151,11 +152,15 @@ nothing_shared page_size page served e =
       once = λ n. subst (λ (k : ℕ). ◌≡◌ {A = ℕ} ((if 1 == n then 1 else 0) + 0 + 0) (fresh 0 k n)) (sym (one_page page_size page)) (used_once n);
     }
 
-nothing_shown : (page_size : ℕ) (page : List ℕ) → IsPageSize page_size → IsEmptyDatabase page_size page → ShowsDatabase (page_view page_size page) [] []
+-- neither a table nor a view
+abbrev nothing_listed : Listed
+nothing_listed = record { tables = []; views = [] }
+
+nothing_shown : (page_size : ℕ) (page : List ℕ) → IsPageSize page_size → IsEmptyDatabase page_size page → ShowsDatabase (page_view page_size page) nothing_listed []
 nothing_shown page_size page served e = record {
   stored = record {
     rows_at = λ root. [];
-    of_tables = record { lists = λ name. refl; only = refl; named = record { rising = refl; each_folded = tt }; once = refl };
+    of_listed = record { lists = λ name. refl; quiet = refl; named = record { rising = refl; each_folded = tt }; once = refl };
     keys = tt;
     once = λ name t listed. none_listed t listed;
     header = empty_of page_size;
@@ -189,6 +194,6 @@ created_hold page_size page served e = held_if_stored page [] [] (record {
     header_is = page_header_is page_size page e;
     counted = refl;
   };
-  tables = [];
+  tables = nothing_listed;
   stored = nothing_shown page_size page served e;
 })

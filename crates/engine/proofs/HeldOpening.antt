@@ -25,8 +25,7 @@ use Rattle.wal.specs.declared.log.Log.{Log}
 use Rattle.wal.proofs.FrameLists.{framed_len}
 use Rattle.wal.proofs.Openable.{committed_one, one_size, some_size}
 use Rattle.catalog.specs.Database.{Database}
-use Rattle.catalog.specs.Listed.{tables_of}
-use Rattle.catalog.specs.declared.tables.Table.{Table}
+use Rattle.catalog.specs.Listed.{listed_in, Listed}
 use Rattle.catalog.specs.declared.tables.Catalog.{Catalog}
 use Rattle.pager.specs.Views.{Tells, View, newest_view}
 use Rattle.session.specs.Holding.{StoreFiles, IsFound, IsSettled}
@@ -167,9 +166,9 @@ seats_find Finds catalog (Ok seats) is finds = subst Finds (sym is) finds
 seats_find Finds catalog (Err f) is finds = tt
 
 -- what was found is the one database that the view shows
-found_shown : StoredOnce → (view : View) (catalog : Catalog) (tables : List Table) (database : Database) → FindsDatabase (pages_in view) view.page_size catalog → ShowsDatabase view tables database → ShowsDatabase view (tables_of catalog) database
+found_shown : StoredOnce → (view : View) (catalog : Catalog) (tables : Listed) (database : Database) → FindsDatabase (pages_in view) view.page_size catalog → ShowsDatabase view tables database → ShowsDatabase view (listed_in catalog) database
 found_shown once view catalog tables database found shown = record {
-  stored = subst (Stores (pages_in view) view.page_size (tables_of catalog)) (once (pages_in view) view.page_size (tables_of catalog) tables found.database database found.stored shown.stored) found.stored;
+  stored = subst (Stores (pages_in view) view.page_size (listed_in catalog)) (once (pages_in view) view.page_size (listed_in catalog) tables found.database database found.stored shown.stored) found.stored;
   served = shown.served;
 }
 
@@ -203,14 +202,14 @@ module _ {D : Type 0} {g : Ghosts D} where
   }
 
   -- files that were read at most, and whose log was cut then, start with what was found
-  pub starts : StoredOnce → (tables : List Table) (database : Database) (old mid new : Log D g) (seats : Seats) → ShowTheSame old mid → IsSettled old → ShowsDatabase (newest_view old) tables database
+  pub starts : StoredOnce → (tables : Listed) (database : Database) (old mid new : Log D g) (seats : Seats) → ShowTheSame old mid → IsSettled old → ShowsDatabase (newest_view old) tables database
       → state_of new ≡ state_of mid → db_of new ≡ db_of mid → g.tells (log_of new) ≡ g.tells (log_of mid) → IsCut (state_of mid) (g.file (log_of mid)) (g.file (log_of new))
       → AreFresh seats → FindsDatabase (pages_in (newest_view old)) (newest_view old).page_size (catalog_in seats) → StartsWith database new seats
   starts once tables database old mid new seats same settled stored known db tells cut fresh found = record {
     fresh = fresh;
     told = record { db = subst (λ (d : D). IsTrue (g.tells d)) (sym db) same.told.db; log = tells ∙ same.told.log; whole = ap (λ (k : LogState). k.has_failed) known ∙ same.told.whole };
     settled = cut_settled mid new known db cut (still_settled old mid same settled);
-    stored = subst (λ (v : View). ShowsDatabase v (tables_of (catalog_in seats)) database) (sym (cut_same mid new known db cut ∙ same.newest))
+    stored = subst (λ (v : View). ShowsDatabase v (listed_in (catalog_in seats)) database) (sym (cut_same mid new known db cut ∙ same.newest))
         (found_shown once (newest_view old) (catalog_in seats) tables database found stored);
   }
 
@@ -219,7 +218,7 @@ module _ {D : Type 0} {g : Ghosts D} where
   not_started database files (Err e) fault is why = subst IsOutside (sym is) why
 
   -- the files tell what they hold, and it is this
-  pub record IsHeld (tables : List Table) (database : Database) (files : Log D g) : Type 0 where
+  pub record IsHeld (tables : Listed) (database : Database) (files : Log D g) : Type 0 where
     pub told : Tells files
     pub settled : IsSettled files
     pub stored : ShowsDatabase (newest_view files) tables database
@@ -251,7 +250,7 @@ module _ {D : Type 0} {g : Ghosts D} where
         (subst (λ (o : Option ℕ). IsViewSize (heads (g.file (log_of files)).content (header_of (state_of files)) (state_of files).frames) o (length (g.file (db_of files)).content) (state_of files).page_size (state_of files).size) counts known.size_is);
     few = (let few = few_frames (header_of (state_of files)) (g.file (log_of files)).content (state_of files).frames in omega (arith, few, known.few));
     page = page_at (pages_in (newest_view files)) 1;
-    first = first_there (newest_view files) (tables_of catalog) found.database found.stored;
+    first = first_there (newest_view files) (listed_in catalog) found.database found.stored;
     header = found.counted.header;
     header_is = found.counted.header_is;
     counted = subst (λ (n : ℕ). MatchOption (counted_of found.counted.header) (⊤) (λ count. count ≡ n)) (count_to (newest_view files) (newest_view files).size) found.counted.counted;
@@ -265,13 +264,13 @@ module _ {D : Type 0} {g : Ghosts D} where
     db_is = refl;
     commits = commits_under (header_of (state_of files)) (g.file (log_of files)).content (state_of files).page_size (state_of files).frames known.header_is known.frames_are;
     found = view;
-    tables = tables_of catalog;
+    tables = listed_in catalog;
     stored = record { stored = found.stored; served = served };
   }
 
   -- what was started shows the database
   pub starts_shown : (connections : Connections D g) (database : Database) (files : Log D g) (seats : Seats) → StartsWith database files seats
-      → ((db : Database) → Tells files → IsSettled files → AreFresh seats → ShowsDatabase (newest_view files) (tables_of (catalog_in seats)) db → RepresentsRunning connections (fresh db)) → Represents connections (fresh database)
+      → ((db : Database) → Tells files → IsSettled files → AreFresh seats → ShowsDatabase (newest_view files) (listed_in (catalog_in seats)) db → RepresentsRunning connections (fresh db)) → Represents connections (fresh database)
   starts_shown connections database files seats start shown = inr (shown database start.told start.settled start.fresh start.stored)
 
 -- contents that can be opened are refused when out of memory, or where a call fails

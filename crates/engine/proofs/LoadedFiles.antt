@@ -6,7 +6,6 @@ use Rattle.sqlval.specs.declared.fault.Fault.{Fault}
 use Rattle.db_header.specs.Header.{IsHeader, counted_of}
 use Rattle.catalog.specs.Database.{Database}
 use Rattle.catalog.specs.declared.tables.Catalog.{Catalog}
-use Rattle.catalog.specs.declared.tables.Table.{Table}
 use Rattle.wal.specs.LogState.{db_of, log_of, size_of, state_of}
 use Rattle.wal.specs.declared.log.Log.{Log}
 use Rattle.wal.specs.declared.log.Snapshot.{Snapshot}
@@ -23,6 +22,7 @@ use Rattle.session.proofs.KeptFiles.{keeps_told, known_kept, snapshot_told}
 use Rattle.session.proofs.SeenPages.{at_newest}
 use Rattle.db_load.specs.Loading.{FindsDatabase}
 use Rattle.engine.specs.Opening.{KeepsFiles}
+use Rattle.catalog.specs.Listed.{Listed}
 
 module _ {D : Type 0} {g : Ghosts D} where
   pub keeps_files : (old new : Log D g) (s t : Snapshot) (a b c d : ℕ) → under_reader new t c d ≡ under_reader old s a b → KeepsFiles old new
@@ -43,7 +43,7 @@ module _ {D : Type 0} {g : Ghosts D} where
     pub counts_pages : (size : ℕ) → size ≡ size_of s → size ≡ length (pages_in (view_under (under_reader files s a b)))
     counts_pages size is = is ∙ sym (count_to (view_under (under_reader files s a b)) (size_of s))
 
-    pub stored_under : (tables : List Table) (db : Database) → ShowsDatabase (newest_view files) tables db → Stores (pages_in (view_under (under_reader files s a b))) (state_of files).page_size tables db
+    pub stored_under : (tables : Listed) (db : Database) → ShowsDatabase (newest_view files) tables db → Stores (pages_in (view_under (under_reader files s a b))) (state_of files).page_size tables db
     stored_under tables db shown = subst (λ (v : View). Stores (pages_in v) (state_of files).page_size tables db) (sym same_view) shown.stored
 
     counted_newest : IsFound (newest_view files) → IsCounted (pages_in (newest_view files))

@@ -9,7 +9,7 @@ use Rattle.sqlval.specs.Faults.{IsOutside}
 use Rattle.sqlval.specs.declared.fault.Fault.{Fault}
 use Rattle.sqlval.specs.declared.fault.Fault.TheVariants.{Io, Blank}
 use Rattle.catalog.specs.Database.{Database}
-use Rattle.catalog.specs.Listed.{tables_of}
+use Rattle.catalog.specs.Listed.{listed_in, Listed}
 use Rattle.wal_frame.specs.Accepted.{KeepsFile}
 use Rattle.wal_frame.specs.Written.{Framed}
 use Rattle.wal_frame.specs.declared.log_header.Salts.{Salts}
@@ -122,7 +122,7 @@ module _ {D : Type 0} {g : Ghosts D} where
     pub fresh : AreFresh seats
     pub told : Tells files
     pub settled : IsSettled files
-    pub stored : ShowsDatabase (newest_view files) (tables_of (catalog_in seats)) database
+    pub stored : ShowsDatabase (newest_view files) (listed_in (catalog_in seats)) database
 
   -- What was opened shows the one database; or memory was short, or a disk's call failed.
   abbrev pub Opens : Database → Result (Engine D g) (Refused D) → Type 0

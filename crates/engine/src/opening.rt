@@ -5,7 +5,7 @@ ghost use Rattle.db_header.specs.Header.{IsHeader};
 ghost use Rattle.sqlval.specs.Faults.{IsOrOutside, IsOutside};
 ghost use Rattle.db_header.specs.declared.fields.Header.{Header as FileHeader};
 ghost use Rattle.catalog.specs.Database.{Database};
-ghost use Rattle.catalog.specs.declared.tables.Table.{Table};
+ghost use Rattle.catalog.specs.Listed.{Listed};
 ghost use Rattle.pager.specs.Views.{Tells, newest_view};
 ghost use Rattle.pager.specs.Maps.{pages_in};
 ghost use Rattle.session.specs.Holding.{IsFound, IsSettled};
@@ -73,7 +73,7 @@ fn file_header<D: Disk>(db: &mut D) -> R<Header>
 fn load_files<D: Disk + Drop>(alloc: Global, log: &mut Log<D>) -> R<Catalog>
     ensures kept { KeepsFiles log.old log.new }
     // The tables of files that hold a database are loaded, unless memory runs out or a disk's call fails.
-    ensures listed { (tables : List Table) (database : Database) → Tells log.old
+    ensures listed { (tables : Listed) (database : Database) → Tells log.old
         → ShowsDatabase (newest_view log.old) tables database
         → IsFound (newest_view log.old) → IfErr result IsOutside }
     // Tables are loaded only of a database that the newest view holds.
@@ -96,7 +96,7 @@ fn load_files<D: Disk + Drop>(alloc: Global, log: &mut Log<D>) -> R<Catalog>
 /// Loads the tables of the newest snapshot, and makes the seats of the connections. (What `load` refuses.)
 fn load_seats<D: Disk + Drop>(alloc: Global, log: &mut Log<D>) -> R<Seats>
     ensures kept { KeepsFiles log.old log.new }
-    ensures listed { (tables : List Table) (database : Database) → Tells log.old
+    ensures listed { (tables : Listed) (database : Database) → Tells log.old
         → ShowsDatabase (newest_view log.old) tables database
         → IsFound (newest_view log.old) → IfErr result IsOutside }
     ensures found { Tells log.old
@@ -134,7 +134,7 @@ fn load_and_truncate<D: Disk + Drop>(alloc: Global, log: &mut Log<D>) -> R<Seats
         → IfOk result (λ seats. FindsDatabase (pages_in (newest_view log.old))
         (newest_view log.old).page_size (catalog_in seats)) }
     // Of settled files that hold a database the catalog lists its tables, and the files stay settled.
-    ensures opens { (tables : List Table) (database : Database) → Tells log.old → IsSettled log.old
+    ensures opens { (tables : Listed) (database : Database) → Tells log.old → IsSettled log.old
         → ShowsDatabase (newest_view log.old) tables database
         → IsOrOutside (StartsWith database log.new) result }
     ensures cause { HasCause false result log.old log.new }

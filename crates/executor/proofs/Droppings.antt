@@ -16,15 +16,15 @@ use Rattle.tree_table.specs.Calls.{BecomesRows, Stands}
 use Rattle.db_layout.specs.Layout.{ReplacesTrees, TreesStand}
 use Rattle.catalog.specs.Database as database
 use Rattle.catalog.specs.Database.{Database, Index, Name, Object, ATable, AnIndex, AView, ATrigger, object}
-use Rattle.catalog.specs.Laws.{FindsListed, IsNoTable, NamesListed}
-use Rattle.catalog.specs.Listed.{has_index, has_only_plain, is_name_of, is_table, with_rows, rowids_in, table_named, table_with_index, without_table}
+use Rattle.catalog.specs.Laws.{FindsListed, IsNoTable, NamesListed, IsNoSource}
+use Rattle.catalog.specs.Listed.{has_index, has_no_trigger, is_name_of, is_table, with_rows, rowids_in, table_named, table_with_index, without_table, Listed, as_view, has_table_name, is_view, view_named}
 use Rattle.catalog.specs.Named.{ListsOthers, without_table_object}
 use Rattle.catalog.specs.declared.tables.Table.{Table}
 use Rattle.query_names.specs.Checked.{Checked, Meant, faults}
 use Rattle.query_names.specs.Schema.{dropped, goes_with}
 use Rattle.row_scan.proofs.TreeOrder.{tree_rises}
 use Rattle.db_write.specs.Changing.{DropsTrees}
-use Rattle.db_pages.specs.Schema.{AreRowsOf, HasKeyIndexes, Told, all_told, told_by}
+use Rattle.db_pages.specs.Schema.{AreRowsOf, HasKeyIndexes, Told, all_told, told_by, tables_told}
 use Rattle.db_pages.specs.Stored.{Stores, all_trees, schema_tree}
 use Rattle.executor.specs.Changing.{IsChangeRefusal, IsMade}
 use Rattle.executor.specs.Listing.{AreThere, without_rows}
@@ -37,7 +37,10 @@ use Rattle.executor.proofs.KeyIndexes.{all_without}
 use Rattle.executor.proofs.Owners.{HasTable, table_of_parts}
 use Rattle.executor.proofs.Replacing.{IsSplit, found_is, names_once, split_at}
 use Rattle.executor.proofs.SchemaRows.{rising_distinct}
-use Rattle.executor.proofs.Telling.{AreLess, as_rows, as_told, many_less, more_pages, rowids_told, told_append, told_around, told_as}
+use Rattle.executor.proofs.Telling.{AreLess, as_rows, as_told, many_less, more_pages, rowids_told, told_joined, told_around, told_as, told_after}
+use Rattle.catalog.specs.declared.tables.View.{View}
+use Rattle.sql_syntax.specs.declared.create.TriggerDefinition.{TriggerDefinition}
+use Rattle.std.specs.List.{list_any}
 
 -- what follows for every listed database, and for the trees of its file
 pub record Laws : Type 0 where
@@ -59,22 +62,27 @@ both_hold : (a b : Bool) → (a && b) ≡ true → (a ≡ true) × (b ≡ true)
 both_hold true b h = (refl, h)
 both_hold false b h = absurd (false≢true h)
 
--- of a database of tables and indexes a DROP takes the table of its name and its indexes
-pub goes_alone : (n : Name) (db : Database) → has_only_plain db ≡ true → filter (λ x. not (goes_with n x)) db ≡ without_table_object n db
+-- of a database without triggers a DROP takes the table of its name and its indexes
+pub goes_alone : (n : Name) (db : Database) → has_no_trigger db ≡ true → filter (λ x. not (goes_with n x)) db ≡ without_table_object n db
 goes_alone n [] only = refl
-goes_alone n ((name, ATable t) ∷ es) only = by_test (is_same_name n name) (goes_alone n es (both_hold true (has_only_plain es) only).1)
+goes_alone n ((name, ATable t) ∷ es) only = by_test (is_same_name n name) (goes_alone n es (both_hold true (has_no_trigger es) only).1)
   where
     by_test : (b : Bool) → filter (λ x. not (goes_with n x)) es ≡ without_table_object n es
         → cond (not b) ((name, ATable t) ∷ filter (λ x. not (goes_with n x)) es) (filter (λ x. not (goes_with n x)) es) ≡ cond (not b) ((name, ATable t) ∷ without_table_object n es) (without_table_object n es)
     by_test true rest = rest
     by_test false rest = ap (λ (xs : Database). (name, ATable t) ∷ xs) rest
-goes_alone n ((name, AnIndex i) ∷ es) only = by_test (is_same_name n name || is_same_name n i.table) (goes_alone n es (both_hold true (has_only_plain es) only).1)
+goes_alone n ((name, AnIndex i) ∷ es) only = by_test (is_same_name n name || is_same_name n i.table) (goes_alone n es (both_hold true (has_no_trigger es) only).1)
   where
     by_test : (b : Bool) → filter (λ x. not (goes_with n x)) es ≡ without_table_object n es
         → cond (not b) ((name, AnIndex i) ∷ filter (λ x. not (goes_with n x)) es) (filter (λ x. not (goes_with n x)) es) ≡ cond (not b) ((name, AnIndex i) ∷ without_table_object n es) (without_table_object n es)
     by_test true rest = rest
     by_test false rest = ap (λ (xs : Database). (name, AnIndex i) ∷ xs) rest
-goes_alone n ((name, AView v) ∷ es) only = absurd (false≢true only)
+goes_alone n ((name, AView v) ∷ es) only = by_test (is_same_name n name) (goes_alone n es (both_hold true (has_no_trigger es) only).1)
+  where
+    by_test : (b : Bool) → filter (λ x. not (goes_with n x)) es ≡ without_table_object n es
+        → cond (not b) ((name, AView v) ∷ filter (λ x. not (goes_with n x)) es) (filter (λ x. not (goes_with n x)) es) ≡ cond (not b) ((name, AView v) ∷ without_table_object n es) (without_table_object n es)
+    by_test true rest = rest
+    by_test false rest = ap (λ (xs : Database). (name, AView v) ∷ xs) rest
 goes_alone n ((name, ATrigger t) ∷ es) only = absurd (false≢true only)
 
 -- ---- where there is none
@@ -83,95 +91,127 @@ goes_alone n ((name, ATrigger t) ∷ es) only = absurd (false≢true only)
 abbrev refuses_kind : Database → ObjectKind → Name → Option Object → Type 0
 refuses_kind db k n o = RefusesWith (of_known (dropped db k n o)) NoSuch
 
-module _ (finds : FindsListed) (old : PageMap) (size : ℕ) (tables : List Table) (db : Database) (held : Stores old size tables db) (n : Name) where
-  found_so : MatchOption (table_named n tables) (IsNoTable (object db n)) (λ t. object db n ≡ Some (ATable (with_rows t (held.rows_at t.root))))
-  found_so = finds held.rows_at tables db n held.of_tables.lists
+module _ (finds : FindsListed) (old : PageMap) (size : ℕ) (l : Listed) (db : Database) (held : Stores old size l db) (n : Name) where
+  found_so : MatchOption (table_named n l.tables) (IsNoTable l n (object db n)) (λ t. object db n ≡ Some (ATable (with_rows t (held.rows_at t.root))))
+  found_so = finds held.rows_at l db n held.of_listed.lists
 
-  pub no_table : (f : Fault) → (f ≡ fault.Memory) ⊎ (refusal_of f ≡ NoSuch) × (table_named n tables ≡ None) → IsChangeRefusal (dropping kind.Table n) db f
+  pub no_table : (f : Fault) → (f ≡ fault.Memory) ⊎ (refusal_of f ≡ NoSuch) × (table_named n l.tables ≡ None) → IsChangeRefusal (dropping kind.Table n) db f
   no_table f (inl memory) = inl (inl (inl memory))
-  no_table f (inr (is, none)) = inr (inl (subst (RefusesWith (change_made (dropping kind.Table n) db)) (sym is) (by (subst (λ (t : Option Table). MatchOption t (IsNoTable (object db n)) (λ t. object db n ≡ Some (ATable (with_rows t (held.rows_at t.root))))) none found_so))))
+  no_table f (inr (is, none)) = inr (inl (subst (RefusesWith (change_made (dropping kind.Table n) db)) (sym is) (by (view_named n l.views)
+      (subst (λ (t : Option Table). MatchOption t (IsNoTable l n (object db n)) (λ t. object db n ≡ Some (ATable (with_rows t (held.rows_at t.root))))) none found_so))))
     where
-      by : IsNoTable (object db n) → refuses_kind db kind.Table n (object db n)
-      by (inl nothing) = subst (refuses_kind db kind.Table n) (sym nothing) (0, omega arith, refl)
-      by (inr (i, is)) = subst (refuses_kind db kind.Table n) (sym is) (0, omega arith, refl)
+      by : (v : Option View) → MatchOption v (IsNoSource (object db n)) (λ v. object db n ≡ Some (AView (as_view v))) → refuses_kind db kind.Table n (object db n)
+      by (Some v) is = subst (refuses_kind db kind.Table n) (sym is) (0, omega arith, refl)
+      by None (inl nothing) = subst (refuses_kind db kind.Table n) (sym nothing) (0, omega arith, refl)
+      by None (inr (i, is)) = subst (refuses_kind db kind.Table n) (sym is) (0, omega arith, refl)
 
-  -- there are no objects but tables and indexes
-  pub no_other : (k : ObjectKind) → (k ≡ kind.Table → ⊥) → (k ≡ kind.Index → ⊥) → (f : Fault) → (f ≡ fault.Memory) ⊎ (refusal_of f ≡ NoSuch) → IsChangeRefusal (dropping k n) db f
-  no_other k other and f (inl memory) = inl (inl (inl memory))
-  no_other k other and f (inr is) = inr (inl (subst (RefusesWith (change_made (dropping k n) db)) (sym is) (by (table_named n tables) found_so)))
+  -- there are no triggers
+  pub no_other : (k : ObjectKind) → (k ≡ kind.Table → ⊥) → (k ≡ kind.Index → ⊥) → (k ≡ kind.View → ⊥) → (f : Fault) → (f ≡ fault.Memory) ⊎ (refusal_of f ≡ NoSuch) → IsChangeRefusal (dropping k n) db f
+  no_other k other and nor f (inl memory) = inl (inl (inl memory))
+  no_other k other and nor f (inr is) = inr (inl (subst (RefusesWith (change_made (dropping k n) db)) (sym is) (by (object db n) (only (table_named n l.tables) found_so))))
     where
-      on_table : (k : ObjectKind) → (k ≡ kind.Table → ⊥) → (o : Object) → (t : database.Table) → o ≡ ATable t → refuses_kind db k n (Some o)
-      on_table kind.Table other o t e = absurd (other refl)
-      on_table kind.Index other o t e = subst (λ (x : Object). refuses_kind db kind.Index n (Some x)) (sym e) (0, omega arith, refl)
-      on_table kind.View other o t e = subst (λ (x : Object). refuses_kind db kind.View n (Some x)) (sym e) (0, omega arith, refl)
-      on_table kind.Trigger other o t e = subst (λ (x : Object). refuses_kind db kind.Trigger n (Some x)) (sym e) (0, omega arith, refl)
+      -- what isn't a trigger isn't dropped as one
+      IsNoTrigger : Option Object → Type 0
+      IsNoTrigger o = (d : TriggerDefinition) → o ≡ Some (ATrigger d) → ⊥
 
-      on_index : (k : ObjectKind) → (k ≡ kind.Index → ⊥) → (i : Index) → refuses_kind db k n (Some (AnIndex i))
-      on_index kind.Table and i = (0, omega arith, refl)
-      on_index kind.Index and i = absurd (and refl)
-      on_index kind.View and i = (0, omega arith, refl)
-      on_index kind.Trigger and i = (0, omega arith, refl)
+      no_source : (found : Option Object) → IsNoSource found → IsNoTrigger found
+      no_source found (inl none) d e = (let bad : None ≡ Some (ATrigger d) = sym none ∙ e in cc)
+      no_source found (inr (i, is)) d e = (let bad : Some (AnIndex i) ≡ Some (ATrigger d) = sym is ∙ e in cc)
 
-      nothing : (k : ObjectKind) → refuses_kind db k n None
-      nothing k = (0, omega arith, refl)
+      behind : (v : Option View) → MatchOption v (IsNoSource (object db n)) (λ v. object db n ≡ Some (AView (as_view v))) → IsNoTrigger (object db n)
+      behind None h = no_source (object db n) h
+      behind (Some v) h = λ d e. (let bad : Some (AView (as_view v)) ≡ Some (ATrigger d) = sym h ∙ e in cc)
 
-      by : (t : Option Table) → MatchOption t (IsNoTable (object db n)) (λ t. object db n ≡ Some (ATable (with_rows t (held.rows_at t.root)))) → refuses_kind db k n (object db n)
-      by (Some t) e = subst (refuses_kind db k n) (sym e) (on_table k other (ATable (with_rows t (held.rows_at t.root))) (with_rows t (held.rows_at t.root)) refl)
-      by None (inl none) = subst (refuses_kind db k n) (sym none) (nothing k)
-      by None (inr (i, is)) = subst (refuses_kind db k n) (sym is) (on_index k and i)
+      only : (t : Option Table) → MatchOption t (IsNoTable l n (object db n)) (λ t. object db n ≡ Some (ATable (with_rows t (held.rows_at t.root)))) → IsNoTrigger (object db n)
+      only None h = behind (view_named n l.views) h
+      only (Some t) h = λ d e. (let bad : Some (ATable (with_rows t (held.rows_at t.root))) ≡ Some (ATrigger d) = sym h ∙ e in cc)
 
-  no_name : (ts : List Table) → table_named n ts ≡ None → table_with_index n ts ≡ None → is_name_of ts n ≡ false
+      for_trigger : (o : Option Object) → IsNoTrigger o → refuses_kind db kind.Trigger n o
+      for_trigger None h = (0, omega arith, refl)
+      for_trigger (Some (ATable t)) h = (0, omega arith, refl)
+      for_trigger (Some (AnIndex i)) h = (0, omega arith, refl)
+      for_trigger (Some (AView v)) h = (0, omega arith, refl)
+      for_trigger (Some (ATrigger d)) h = absurd (h d refl)
+
+      by_kind : (k : ObjectKind) → (k ≡ kind.Table → ⊥) → (k ≡ kind.Index → ⊥) → (k ≡ kind.View → ⊥) → (o : Option Object) → IsNoTrigger o → refuses_kind db k n o
+      by_kind kind.Table other and nor o h = absurd (other refl)
+      by_kind kind.Index other and nor o h = absurd (and refl)
+      by_kind kind.View other and nor o h = absurd (nor refl)
+      by_kind kind.Trigger other and nor o h = for_trigger o h
+
+      by : (o : Option Object) → IsNoTrigger o → refuses_kind db k n o
+      by o h = by_kind k other and nor o h
+
+  no_name : (ts : List Table) → table_named n ts ≡ None → table_with_index n ts ≡ None → list_any (has_table_name n) ts ≡ false
   no_name [] none and = refl
   no_name (t ∷ ts) none and = by (is_table n t) (has_index n t) none and (no_name ts)
     where
-      by : (a b : Bool) → cond a (Some t) (table_named n ts) ≡ None → cond b (Some t) (table_with_index n ts) ≡ None → (table_named n ts ≡ None → table_with_index n ts ≡ None → is_name_of ts n ≡ false)
-          → ((a || b) || is_name_of ts n) ≡ false
+      by : (a b : Bool) → cond a (Some t) (table_named n ts) ≡ None → cond b (Some t) (table_with_index n ts) ≡ None → (table_named n ts ≡ None → table_with_index n ts ≡ None → list_any (has_table_name n) ts ≡ false)
+          → ((a || b) || list_any (has_table_name n) ts) ≡ false
       by true b none and rest = absurd cc
       by false true none and rest = absurd cc
       by false false none and rest = rest none and
 
-  -- no index has the name
-  pub no_index : NamesListed → (f : Fault) → (f ≡ fault.Memory) ⊎ (refusal_of f ≡ NoSuch) × (table_with_index n tables ≡ None) → IsChangeRefusal (dropping kind.Index n) db f
-  no_index names f (inl memory) = inl (inl (inl memory))
-  no_index names f (inr (is, none)) = inr (inl (subst (RefusesWith (change_made (dropping kind.Index n) db)) (sym is) (by (table_named n tables) refl found_so)))
+  no_view_name : (vs : List View) → view_named n vs ≡ None → list_any (is_view n) vs ≡ false
+  no_view_name [] none = refl
+  no_view_name (v ∷ vs) none = by (is_view n v) none (no_view_name vs)
     where
-      not_there : table_named n tables ≡ None → (i : Index) → object db n ≡ Some (AnIndex i) → ⊥
-      not_there named i e = some_named (sym (ap is_some e) ∙ (names held.rows_at tables db n held.of_tables.lists ∙ no_name tables named none))
+      by : (a : Bool) → cond a (Some v) (view_named n vs) ≡ None → (view_named n vs ≡ None → list_any (is_view n) vs ≡ false) → (a || list_any (is_view n) vs) ≡ false
+      by true none rest = absurd cc
+      by false none rest = rest none
+
+  -- no index has the name
+  pub no_index : NamesListed → (f : Fault) → (f ≡ fault.Memory) ⊎ (refusal_of f ≡ NoSuch) × (table_with_index n l.tables ≡ None) → IsChangeRefusal (dropping kind.Index n) db f
+  no_index names f (inl memory) = inl (inl (inl memory))
+  no_index names f (inr (is, none)) = inr (inl (subst (RefusesWith (change_made (dropping kind.Index n) db)) (sym is) (by (table_named n l.tables) refl found_so)))
+    where
+      not_there : table_named n l.tables ≡ None → view_named n l.views ≡ None → (i : Index) → object db n ≡ Some (AnIndex i) → ⊥
+      not_there named seen i e = some_named (sym (ap is_some e) ∙ (names held.rows_at l db n held.of_listed.lists
+          ∙ (ap (λ b. b || list_any (is_view n) l.views) (no_name l.tables named none) ∙ no_view_name l.views seen)))
         where
           some_named : true ≡ false → ⊥
           some_named h = false≢true (sym h)
 
-      by : (t : Option Table) → table_named n tables ≡ t → MatchOption t (IsNoTable (object db n)) (λ t. object db n ≡ Some (ATable (with_rows t (held.rows_at t.root)))) → refuses_kind db kind.Index n (object db n)
+      behind : table_named n l.tables ≡ None → (v : Option View) → view_named n l.views ≡ v → MatchOption v (IsNoSource (object db n)) (λ v. object db n ≡ Some (AView (as_view v)))
+          → refuses_kind db kind.Index n (object db n)
+      behind named (Some v) seen e = subst (refuses_kind db kind.Index n) (sym e) (0, omega arith, refl)
+      behind named None seen (inl nothing) = subst (refuses_kind db kind.Index n) (sym nothing) (0, omega arith, refl)
+      behind named None seen (inr (i, e)) = absurd (not_there named seen i e)
+
+      by : (t : Option Table) → table_named n l.tables ≡ t → MatchOption t (IsNoTable l n (object db n)) (λ t. object db n ≡ Some (ATable (with_rows t (held.rows_at t.root)))) → refuses_kind db kind.Index n (object db n)
       by (Some t) named e = subst (refuses_kind db kind.Index n) (sym e) (0, omega arith, refl)
-      by None named (inl nothing) = subst (refuses_kind db kind.Index n) (sym nothing) (0, omega arith, refl)
-      by None named (inr (i, e)) = absurd (not_there named i e)
+      by None named h = behind named (view_named n l.views) refl h
 
 -- ---- a table that goes
 
-module _ (laws : Laws) (old : PageMap) (size : ℕ) (tables : List Table) (db : Database) (held : Stores old size tables db) (n : Name) (t : Table) (named : table_named n tables ≡ Some t) where
-  abbrev trees : HoldsTrees old size held.rows_at tables held.schema
-  trees = trees_held old size tables db held
+-- what is listed then
+abbrev left_of : Name → Listed → Listed
+left_of n l = record l { tables = without_table n l.tables }
+
+module _ (laws : Laws) (old : PageMap) (size : ℕ) (l : Listed) (db : Database) (held : Stores old size l db) (n : Name) (t : Table) (named : table_named n l.tables ≡ Some t) where
+  abbrev trees : HoldsTrees old size held.rows_at l.tables held.schema
+  trees = trees_held old size l db held
 
   pub schema_stand : Stands old size 1 held.schema held.schema_used held.free
-  schema_stand = schema_stands old size held.rows_at tables held.schema trees laws.stand
+  schema_stand = schema_stands old size held.rows_at l.tables held.schema trees laws.stand
 
-  pub split : IsSplit t tables
-  split = split_at (is_table n) tables t (names_once tables held.of_tables.once) named
+  pub split : IsSplit t l.tables
+  split = split_at (is_table n) l.tables t (names_once l held.of_listed.once) named
 
-  abbrev o : HasTable held.rows_at tables held.held t
-  o = table_of_parts held.rows_at tables held.held split.before t split.after split.parts held.each
+  abbrev o : HasTable held.rows_at l.tables held.held t
+  o = table_of_parts held.rows_at l.tables held.held split.before t split.after split.parts held.each
 
   abbrev front : List Told
-  front = all_told split.before
+  front = tables_told split.before
 
   abbrev back : List Told
-  back = all_told split.after
+  back = told_after split.after l.views
 
   -- the rows that are left tell the tables that are left
   less : AreLess (length old) (front ++ back) (rowids_in t) held.schema
   less = subst (λ (rs : List ℤ). AreLess (length old) (front ++ back) rs held.schema) (rowids_told t)
       (many_less (length old) front (told_by t) back held.schema
-      (told_as (length old) (all_told tables) (front ++ (told_by t ++ back)) held.schema (ap all_told split.parts ∙ told_around split.before t split.after) (as_told (length old) tables held.schema held.tell))
+      (told_as (length old) (all_told l) (front ++ (told_by t ++ back)) held.schema (ap (λ (ts : List Table). all_told (record l { tables = ts })) split.parts ∙ told_around split.before t split.after l.views) (as_told (length old) l held.schema held.tell))
       (rising_distinct held.schema (tree_rises old size 1 held.schema held.schema_used held.shared.trees.0)))
 
   pub rows_there : AreThere (rowids_in t) held.schema
@@ -181,34 +221,34 @@ module _ (laws : Laws) (old : PageMap) (size : ℕ) (tables : List Table) (db : 
     abbrev schema_left : List Entry
     schema_left = without_rows (rowids_in t) held.schema
 
-    abbrev then_trees : HoldsTrees mid size held.rows_at tables schema_left
-    then_trees = with_schema old size held.rows_at tables held.schema trees laws.give_way mid schema_left becomes
+    abbrev then_trees : HoldsTrees mid size held.rows_at l.tables schema_left
+    then_trees = with_schema old size held.rows_at l.tables held.schema trees laws.give_way mid schema_left becomes
 
     reached : Reaches (change_made (dropping kind.Table n) db) (without_table_object n db)
     reached = subst (λ (o : Option Object). Reaches (of_known (dropped db kind.Table n o)) (without_table_object n db))
-        (sym (table_found held.rows_at tables db n t held.of_tables.lists named)) (goes_alone n db held.of_tables.only)
+        (sym (table_found held.rows_at l db n t held.of_listed.lists named)) (goes_alone n db held.of_listed.quiet)
 
     -- what the call that gives its trees back comes to
-    pub drops : (new : PageMap) → DropsTrees mid new size t (Ok tt) → (listed : List Table) → listed ≡ without_table n tables → IsMade (dropping kind.Table n) db new size listed
+    pub drops : (new : PageMap) → DropsTrees mid new size t (Ok tt) → (listed : Listed) → listed ≡ left_of n l → IsMade (dropping kind.Table n) db new size listed
     drops new gives listed same =
         let left = gives (schema_tree schema_left becomes.now_used) (all_trees o.split.before) (all_trees o.split.after) (held.rows_at t.root)
-        (page_size mid size held.rows_at tables schema_left then_trees) refl (among mid size held.rows_at tables schema_left then_trees t o) o.split.is.fit in
+        (page_size mid size held.rows_at l.tables schema_left then_trees) refl (among mid size held.rows_at l.tables schema_left then_trees t o) o.split.is.fit in
         let longer : length old ≤ length new = (let a = becomes.moves.longer in let b = left.same in omega (arith, a, b)) in
-        let others : split.before ++ split.after ≡ without_table n tables = sym (split.without n (found_is (is_table n) tables t named)) in
-        let tell : AreRowsOf (length new) (split.before ++ split.after) schema_left =
-        as_rows (length new) (split.before ++ split.after) (front ++ back) schema_left (told_append split.before split.after) (more_pages (length old) (length new) longer (front ++ back) schema_left less.tell) in
+        let others : split.before ++ split.after ≡ without_table n l.tables = sym (split.without n (found_is (is_table n) l.tables t named)) in
+        let tell : AreRowsOf (length new) (record l { tables = split.before ++ split.after }) schema_left =
+        as_rows (length new) (record l { tables = split.before ++ split.after }) (front ++ back) schema_left (told_joined split.before split.after l.views) (more_pages (length old) (length new) longer (front ++ back) schema_left less.tell) in
         record {
           made = without_table_object n db;
           reaches = reached;
-          stored = subst (λ (ts : List Table). Stores new size ts (without_table_object n db)) (sym same)
-              (stores_of new size held.rows_at (without_table n tables) schema_left (without_table_object n db)
-              (subst (λ (ts : List Table). HoldsTrees new size held.rows_at ts schema_left) others (held_trees.dropped mid size held.rows_at tables schema_left then_trees t o new left))
-              (laws.others held.rows_at tables db n t held.of_tables named)
-              (subst (λ (ts : List Table). AreRowsOf (length new) ts schema_left) others tell)
-              (all_without HasKeyIndexes n tables held.keys));
+          stored = subst (λ (left : Listed). Stores new size left (without_table_object n db)) (sym same)
+              (stores_of new size held.rows_at (left_of n l) schema_left (without_table_object n db)
+              (subst (λ (ts : List Table). HoldsTrees new size held.rows_at ts schema_left) others (held_trees.dropped mid size held.rows_at l.tables schema_left then_trees t o new left))
+              (laws.others held.rows_at l db n t held.of_listed named)
+              (subst (λ (ts : List Table). AreRowsOf (length new) (record l { tables = ts }) schema_left) others tell)
+              (all_without HasKeyIndexes n l.tables held.keys));
         }
 
     pub not_given : (new : PageMap) (f : Fault) → DropsTrees mid new size t (Err f) → IsChangeRefusal (dropping kind.Table n) db f
     not_given new f gives =
         inl (inl (gives (schema_tree schema_left becomes.now_used) (all_trees o.split.before) (all_trees o.split.after) (held.rows_at t.root)
-        (page_size mid size held.rows_at tables schema_left then_trees) refl (among mid size held.rows_at tables schema_left then_trees t o) o.split.is.fit))
+        (page_size mid size held.rows_at l.tables schema_left then_trees) refl (among mid size held.rows_at l.tables schema_left then_trees t o) o.split.is.fit))

@@ -9,18 +9,19 @@ use Rattle.std.specs.Prelude.{flat_map, option_map, bytes_eq}
 use Rattle.sqlval.specs.Lists.{any_twice}
 use Rattle.sqlval.specs.Names.{folded, is_same_name}
 use Rattle.catalog.specs.Database.{AnIndex, ATable, Database, Name, Object, object}
-use Rattle.catalog.specs.Listed.{Lists, index_objects, named_among, names_of, objects_of, as_index, with_rows, table_named, table_object}
-use Rattle.catalog.specs.Named.{IsOfTables}
+use Rattle.catalog.specs.Listed.{Lists, index_objects, named_among, names_of, objects_of, as_index, with_rows, table_named, table_object, Listed, view_object}
+use Rattle.catalog.specs.Named.{IsOfListed}
 use Rattle.catalog.specs.declared.tables.Index.{Index}
 use Rattle.catalog.specs.declared.tables.Table.{Table}
-use Rattle.catalog.proofs.Found.{as_object, index_found, listed_as}
+use Rattle.catalog.proofs.Found.{as_object, behind_found, listed_as}
 use Rattle.row_scan.specs.Rows.{TableRow}
 use Rattle.executor.specs.Changing.{IsIndexIn}
+use Rattle.catalog.specs.declared.tables.View.{View}
 
 -- the name of a listed table finds it
-pub table_found : (rows_at : ℕ → List TableRow) (tables : List Table) (db : Database) (name : Name) (t : Table) → Lists rows_at tables db → table_named name tables ≡ Some t
+pub table_found : (rows_at : ℕ → List TableRow) (l : Listed) (db : Database) (name : Name) (t : Table) → Lists rows_at l db → table_named name l.tables ≡ Some t
     → object db name ≡ Some (ATable (with_rows t (rows_at t.root)))
-table_found rows_at tables db name t lists named = lists name ∙ (listed_as rows_at name tables ∙ ap (as_object rows_at (index_found name tables)) named)
+table_found rows_at l db name t lists named = lists name ∙ (listed_as rows_at name l ∙ ap (as_object rows_at (behind_found name l)) named)
 
 -- ---- names that stand once
 
@@ -78,17 +79,23 @@ table_names : (rows_at : ℕ → List TableRow) (tables : List Table) → names 
 table_names rows_at [] = refl
 table_names rows_at (t ∷ ts) = ap (λ ns. t.name ∷ ns) (table_names rows_at ts)
 
-pub names_are : (rows_at : ℕ → List TableRow) (tables : List Table) → names (objects_of rows_at tables) ≡ names_of tables
-names_are rows_at tables =
-    names_both (map (table_object rows_at) tables) (flat_map index_objects tables)
-    ∙ (ap (λ ns. ns ++ names (flat_map index_objects tables)) (table_names rows_at tables) ∙ ap (λ ns. map (λ (t : Table). t.name) tables ++ ns) (all_index_names tables))
+view_names : (views : List View) → names (map view_object views) ≡ map (λ (v : View). v.definition.name) views
+view_names [] = refl
+view_names (v ∷ vs) = ap (λ ns. v.definition.name ∷ ns) (view_names vs)
 
-module _ (rows_at : ℕ → List TableRow) (tables : List Table) (db : Database) (is : IsOfTables rows_at tables db) where
+pub names_are : (rows_at : ℕ → List TableRow) (l : Listed) → names (objects_of rows_at l) ≡ names_of l
+names_are rows_at l =
+    names_both (map (table_object rows_at) l.tables) (map view_object l.views ++ flat_map index_objects l.tables)
+    ∙ (ap (λ ns. ns ++ names (map view_object l.views ++ flat_map index_objects l.tables)) (table_names rows_at l.tables)
+    ∙ ap (λ ns. map (λ (t : Table). t.name) l.tables ++ ns) (names_both (map view_object l.views) (flat_map index_objects l.tables)
+    ∙ (ap (λ ns. ns ++ names (flat_map index_objects l.tables)) (view_names l.views) ∙ ap (λ ns. map (λ (v : View). v.definition.name) l.views ++ ns) (all_index_names l.tables))))
+
+module _ (rows_at : ℕ → List TableRow) (l : Listed) (db : Database) (is : IsOfListed rows_at l db) where
   abbrev all : List (Name × Object)
-  all = objects_of rows_at tables
+  all = objects_of rows_at l
 
   once : any_twice is_same_name (names all) ≡ false
-  once = ap (any_twice is_same_name) (names_are rows_at tables) ∙ no_no (any_twice is_same_name (names_of tables)) is.once
+  once = ap (any_twice is_same_name) (names_are rows_at l) ∙ no_no (any_twice is_same_name (names_of l)) is.once
 
   abbrev listed_index : Table → Index → Name × Object
   listed_index t i = (i.name, AnIndex (as_index t i))
@@ -102,8 +109,9 @@ module _ (rows_at : ℕ → List TableRow) (tables : List Table) (db : Database)
   )
 
   -- the name of each index of a listed table finds it
-  pub indexes_listed : (front : List Table) (t : Table) (back : List Table) → tables ≡ front ++ t ∷ back → AllByRecursion (IsIndexIn db t) t.indexes
+  pub indexes_listed : (front : List Table) (t : Table) (back : List Table) → l.tables ≡ front ++ t ∷ back → AllByRecursion (IsIndexIn db t) t.indexes
   indexes_listed front t back parts =
-      each_found t (map (table_object rows_at) tables ++ flat_map index_objects front) t.indexes (flat_map index_objects back)
-      (ap (λ os. map (table_object rows_at) tables ++ os) (ap (flat_map index_objects) parts ∙ flat_map-append index_objects front (t ∷ back))
-      ∙ sym (append_assoc (map (table_object rows_at) tables) (flat_map index_objects front) (index_objects t ++ flat_map index_objects back)))
+      each_found t (map (table_object rows_at) l.tables ++ (map view_object l.views ++ flat_map index_objects front)) t.indexes (flat_map index_objects back)
+      (ap (λ os. map (table_object rows_at) l.tables ++ (map view_object l.views ++ os)) (ap (flat_map index_objects) parts ∙ flat_map-append index_objects front (t ∷ back))
+      ∙ (ap (λ os. map (table_object rows_at) l.tables ++ os) (sym (append_assoc (map view_object l.views) (flat_map index_objects front) (index_objects t ++ flat_map index_objects back)))
+      ∙ sym (append_assoc (map (table_object rows_at) l.tables) (map view_object l.views ++ flat_map index_objects front) (index_objects t ++ flat_map index_objects back))))

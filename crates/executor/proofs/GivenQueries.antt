@@ -1,5 +1,5 @@
 -- The rows of a query, as those that an INSERT gives.
-use Rattle.std.proofs.Common.{◌≡◌, ◌∙◌, ap, inr, subst, sym, ℕ, Bool, true, false, not, ◌&&◌, ◌==◌, List, [], length, Some, arith}
+use Rattle.std.proofs.Common.{◌≡◌, ◌∙◌, ap, inr, refl, subst, sym, ℕ, Bool, true, false, not, ◌&&◌, ◌==◌, List, [], length, Some, arith}
 use Rattle.std.specs.Prelude.{Contains}
 use Rattle.std.proofs.lemmas.Bool.Decides.{nat_tests}
 use Rattle.sqlval.specs.Refusals.{Answer, Misuse, refusal_of}
@@ -44,3 +44,17 @@ module _ (db : Database) (n : ℕ) (q : Query) (reading : Reading) (named : reso
 
   pub well_counted : (n == length reading.results) ≡ true → given_on db n (source.Query q) ≡ Meant (answer_of db [] reading) []
   well_counted e = by_count true e
+
+-- ---- what is known of it
+
+-- the refusals of what is looked up are those of its rows
+pub same_faults : {A B : Type 0} (f : A → B) (k : Checked A) → faults (known_map f k) ≡ faults k
+same_faults f (Meant x rs) = refl
+
+pub as_known : (db : Database) (n : ℕ) (q : Query) (f : Fault) → IsFaultOf (faults (given_on db n (source.Query q))) f → IsFaultOf (faults (resolve_given db no_outer (Some n) (source.Query q))) f
+as_known db n q f why = subst (λ rs. IsFaultOf rs f) (same_faults (given_rows db no_outer) (resolve_given db no_outer (Some n) (source.Query q))) why
+
+pub well_known : (db : Database) (n : ℕ) (q : Query) (reading : Reading) → resolve_query (look_up db) [] q ≡ Meant reading [] → reading.is_open ≡ false → (n == length reading.results) ≡ true
+    → faults (resolve_given db no_outer (Some n) (source.Query q)) ≡ []
+well_known db n q reading named closed same =
+    sym (same_faults (given_rows db no_outer) (resolve_given db no_outer (Some n) (source.Query q))) ∙ ap faults (well_counted db n q reading named closed same)

@@ -17,8 +17,8 @@ use Rattle.tree_table.specs.Calls.{BecomesRows, Stands}
 use Rattle.tree_table.specs.Freeing.{IsNewTree}
 use Rattle.db_layout.specs.Layout.{AreShared, OfRows, Owner, ReplacesTrees, TreesStand, used_by}
 use Rattle.catalog.specs.Database.{Database, Name}
-use Rattle.catalog.specs.Listed.{is_table, with_rows, table_named}
-use Rattle.catalog.specs.Named.{IsOfTables}
+use Rattle.catalog.specs.Listed.{is_table, with_rows, table_named, Listed}
+use Rattle.catalog.specs.Named.{IsOfListed}
 use Rattle.catalog.specs.Rows.{are_rows}
 use Rattle.catalog.specs.declared.tables.Index.{Index}
 use Rattle.catalog.specs.declared.tables.Table.{Table}
@@ -86,8 +86,8 @@ roots_append n (t ∷ front) back = let rest = roots_append n front back in omeg
 
 -- ---- the trees of a file
 
-abbrev pub trees_held : (map : PageMap) (size : ℕ) (tables : List Table) (db : Database) (stored : Stores map size tables db) → HoldsTrees map size stored.rows_at tables stored.schema
-trees_held map size tables db stored = record {
+abbrev pub trees_held : (map : PageMap) (size : ℕ) (l : Listed) (db : Database) (stored : Stores map size l db) → HoldsTrees map size stored.rows_at l.tables stored.schema
+trees_held map size l db stored = record {
   header = stored.header;
   header_is = stored.header_is;
   sized = stored.sized;
@@ -98,17 +98,17 @@ trees_held map size tables db stored = record {
   shared = stored.shared;
 }
 
-abbrev pub listed_held : (map : PageMap) (size : ℕ) (tables : List Table) (db : Database) (stored : Stores map size tables db) → HoldsListed map size tables db
-listed_held map size tables db stored =
-    record { rows_at = stored.rows_at; of_tables = stored.of_tables; schema = stored.schema; tell = stored.tell; trees = trees_held map size tables db stored }
+abbrev pub listed_held : (map : PageMap) (size : ℕ) (l : Listed) (db : Database) (stored : Stores map size l db) → HoldsListed map size l db
+listed_held map size l db stored =
+    record { rows_at = stored.rows_at; of_listed = stored.of_listed; schema = stored.schema; tell = stored.tell; trees = trees_held map size l db stored }
 
 -- with rows of the schema table that tell the tables, they are a database
-pub stores_of : (map : PageMap) (size : ℕ) (rows_at : ℕ → List TableRow) (tables : List Table) (schema : List Entry) (db : Database) → HoldsTrees map size rows_at tables schema
-    → IsOfTables rows_at tables db → AreRowsOf (length map) tables schema → AllByRecursion HasKeyIndexes tables → Stores map size tables db
-stores_of map size rows_at tables schema db h of_tables tell keys = record {
+pub stores_of : (map : PageMap) (size : ℕ) (rows_at : ℕ → List TableRow) (l : Listed) (schema : List Entry) (db : Database) → HoldsTrees map size rows_at l.tables schema
+    → IsOfListed rows_at l db → AreRowsOf (length map) l schema → AllByRecursion HasKeyIndexes l.tables → Stores map size l db
+stores_of map size rows_at l schema db h of_listed tell keys = record {
   rows_at = rows_at;
-  of_tables = of_tables;
-  once = once_told (length map) tables schema tell;
+  of_listed = of_listed;
+  once = once_told (length map) l schema tell;
   keys = keys;
   header = h.header;
   header_is = h.header_is;
@@ -123,8 +123,8 @@ stores_of map size rows_at tables schema db h of_tables tell keys = record {
 }
 
 -- and so do these, where each key has its index
-abbrev pub stored_of : (map : PageMap) (size : ℕ) (tables : List Table) (db : Database) → HoldsListed map size tables db → AllByRecursion HasKeyIndexes tables → Stores map size tables db
-stored_of map size tables db held keys = stores_of map size held.rows_at tables held.schema db held.trees held.of_tables held.tell keys
+abbrev pub stored_of : (map : PageMap) (size : ℕ) (l : Listed) (db : Database) → HoldsListed map size l db → AllByRecursion HasKeyIndexes l.tables → Stores map size l db
+stored_of map size l db held keys = stores_of map size held.rows_at l held.schema db held.trees held.of_listed held.tell keys
 
 -- ---- changes
 
@@ -276,21 +276,21 @@ module _ (map : PageMap) (size : ℕ) (rows_at : ℕ → List TableRow) (tables 
 
 -- ---- a listed table
 
-pub held_table : (map : PageMap) (size : ℕ) (tables : List Table) (db : Database) (stored : Stores map size tables db) (name : Name) (t : Table) → table_named name tables ≡ Some t
-    → HasTable stored.rows_at tables stored.held t
-held_table map size tables db stored name t named =
-    let among = found_among (is_table name) tables t named in table_of_parts stored.rows_at tables stored.held among.front t among.back among.parts stored.each
+pub held_table : (map : PageMap) (size : ℕ) (l : Listed) (db : Database) (stored : Stores map size l db) (name : Name) (t : Table) → table_named name l.tables ≡ Some t
+    → HasTable stored.rows_at l.tables stored.held t
+held_table map size l db stored name t named =
+    let among = found_among (is_table name) l.tables t named in table_of_parts stored.rows_at l.tables stored.held among.front t among.back among.parts stored.each
 
 -- the pages store the database whose table has other rows
-pub stores_rows : (map new : PageMap) (size : ℕ) (tables : List Table) (db made : Database) (stored : Stores map size tables db) (t : Table) (rows : List TableRow) (o : HasTable stored.rows_at tables stored.held t)
-    → HoldsFitRows map new size (schema_tree stored.schema stored.schema_used) (all_trees o.split.before) t rows (all_trees o.split.after) → IsOfTables (rows_with stored.rows_at t.root rows) tables made
-    → Stores new size tables made
-stores_rows map new size tables db made stored t rows o now of_tables =
-    stores_of new size (rows_with stored.rows_at t.root rows) tables stored.schema made
+pub stores_rows : (map new : PageMap) (size : ℕ) (l : Listed) (db made : Database) (stored : Stores map size l db) (t : Table) (rows : List TableRow) (o : HasTable stored.rows_at l.tables stored.held t)
+    → HoldsFitRows map new size (schema_tree stored.schema stored.schema_used) (all_trees o.split.before) t rows (all_trees o.split.after) → IsOfListed (rows_with stored.rows_at t.root rows) l made
+    → Stores new size l made
+stores_rows map new size l db made stored t rows o now of_listed =
+    stores_of new size (rows_with stored.rows_at t.root rows) l stored.schema made
     (subst (λ (ts : List Table). HoldsTrees new size (rows_with stored.rows_at t.root rows) ts stored.schema) (sym o.tables_are)
-    (changed map size stored.rows_at tables stored.schema (trees_held map size tables db stored) t o new t rows refl now.fit now.holds))
-    of_tables
-    (as_rows (length new) tables (all_told tables) stored.schema refl (more_pages (length map) (length new) now.holds.longer (all_told tables) stored.schema (as_told (length map) tables stored.schema stored.tell)))
+    (changed map size stored.rows_at l.tables stored.schema (trees_held map size l db stored) t o new t rows refl now.fit now.holds))
+    of_listed
+    (as_rows (length new) l (all_told l) stored.schema refl (more_pages (length map) (length new) now.holds.longer (all_told l) stored.schema (as_told (length map) l stored.schema stored.tell)))
     stored.keys
 
 pub named_as : (tables : List Table) (a b : Name) → folded a ≡ folded b → table_named a tables ≡ table_named b tables

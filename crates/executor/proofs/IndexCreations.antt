@@ -25,9 +25,9 @@ use Rattle.tree_index.specs.Tree.{IsIndexTree}
 use Rattle.db_layout.specs.Layout.{HoldsUnder, IsTree, Owner, ReplacesTrees, TreesStand, used_by}
 use Rattle.catalog.specs.Database as database
 use Rattle.catalog.specs.Database.{AnIndex, ATable, ATrigger, AView, Database, Name, with_object, object as object_in}
-use Rattle.catalog.specs.Listed.{as_index, is_name_of, is_table, rowids_of, table_named, with_replaced, with_rows}
-use Rattle.catalog.specs.Named.{IsOfTables}
-use Rattle.catalog.specs.NewIndexes.{ListsNewIndex, with_index}
+use Rattle.catalog.specs.Listed.{as_index, is_name_of, is_table, rowids_of, table_named, with_replaced, with_rows, Listed}
+use Rattle.catalog.specs.Named.{IsOfListed}
+use Rattle.catalog.specs.NewIndexes.{ListsNewIndex, with_index, replacing}
 use Rattle.catalog.specs.UnusedRowids.{is_among}
 use Rattle.catalog.specs.declared.tables.Index.{Index}
 use Rattle.catalog.specs.declared.tables.IndexColumn.{IndexColumn}
@@ -81,25 +81,25 @@ last_of : {A : Type 0} (P : A → Type 0) (xs : List A) (x : A) → AllByRecursi
 last_of P [] x all = all.0
 last_of P (y ∷ xs) x all = last_of P xs x all.1
 
-module _ (laws : Laws) (old : PageMap) (size : ℕ) (tables : List Table) (db : Database) (held : Stores old size tables db) (sql : List ℕ) (d : IndexDefinition) where
+module _ (laws : Laws) (old : PageMap) (size : ℕ) (l : Listed) (db : Database) (held : Stores old size l db) (sql : List ℕ) (d : IndexDefinition) where
   -- its names are refused
-  pub refused_names : (f : Fault) → (f ≡ fault.Memory) ⊎ IsIndexRefusal tables d (refusal_of f) → IsChangeRefusal (creating sql d) db f
+  pub refused_names : (f : Fault) → (f ≡ fault.Memory) ⊎ IsIndexRefusal l d (refusal_of f) → IsChangeRefusal (creating sql d) db f
   refused_names f (inl memory) = inl (inl (inl memory))
   refused_names f (inr why) =
-      inr (inl (refused_work d.name (create db (object.Index d)) (refusal_of f) (laws.refuses held.rows_at tables db d (refusal_of f) held.of_tables.lists why)))
+      inr (inl (refused_work d.name (create db (object.Index d)) (refusal_of f) (laws.refuses held.rows_at l db d (refusal_of f) held.of_listed.lists why)))
 
-  module _ (t : Table) (columns : List IndexColumn) (is : IsIndexOn tables d t columns) where
+  module _ (t : Table) (columns : List IndexColumn) (is : IsIndexOn l d t columns) where
     own_name : is_table d.table t ≡ true
-    own_name = found_is (is_table d.table) tables t is.on
+    own_name = found_is (is_table d.table) l.tables t is.on
 
     same_name : folded d.table ≡ folded t.name
     same_name = sym (same_folded t.name d.table own_name)
 
-    pub named : table_named t.name tables ≡ Some t
-    named = named_as tables t.name d.table (sym same_name) ∙ is.on
+    pub named : table_named t.name l.tables ≡ Some t
+    named = named_as l.tables t.name d.table (sym same_name) ∙ is.on
 
-    split : IsSplit t tables
-    split = split_at (is_table d.table) tables t (names_once tables held.of_tables.once) is.on
+    split : IsSplit t l.tables
+    split = split_at (is_table d.table) l.tables t (names_once l held.of_listed.once) is.on
 
     abbrev rows : List TableRow
     rows = held.rows_at t.root
@@ -114,21 +114,21 @@ module _ (laws : Laws) (old : PageMap) (size : ℕ) (tables : List Table) (db : 
     abbrev with_it : Table
     with_it = with_index index t
 
-    abbrev listed : List Table
-    listed = with_replaced with_it tables
+    abbrev listed : Listed
+    listed = replacing with_it l
 
     abbrev made : Database
     made = with_object db d.name (AnIndex (as_index t index))
 
-    of_made : IsOfTables held.rows_at listed made
-    of_made = laws.lists held.rows_at tables db t index held.of_tables named is.new
+    of_made : IsOfListed held.rows_at listed made
+    of_made = laws.lists held.rows_at l db t index held.of_listed named is.new
 
     made_is : index_made db d t columns ≡ made
     made_is = ap (λ (x : database.Index). with_object db d.name (AnIndex x)) (λ k. record { table = same_name k; is_unique = d.is_unique; is_automatic = false; columns = map key_of columns })
 
     -- the table in the new database, with its rows
     table_there : object_in made (folded t.name) ≡ Some (ATable (with_rows with_it rows))
-    table_there = table_found held.rows_at listed made (folded t.name) with_it of_made.lists (named_as listed (folded t.name) t.name (folded_twice t.name) ∙ found_in_place t with_it refl tables named)
+    table_there = table_found held.rows_at listed made (folded t.name) with_it of_made.lists (named_as listed.tables (folded t.name) t.name (folded_twice t.name) ∙ found_in_place t with_it refl l.tables named)
 
     -- two rows clash there as they do for the index that is made
     clash_is : index_clashes made d.name ≡ has_clash (as_index t index) rows
@@ -141,7 +141,7 @@ module _ (laws : Laws) (old : PageMap) (size : ℕ) (tables : List Table) (db : 
 
     work_is : (clash : Bool) → has_clash (as_index t index) rows ≡ clash → change_made (creating sql d) db ≡ made_by clash
     work_is clash e =
-        ap (λ (k : Checked Database). made_index d.name (of_known k)) (laws.makes held.rows_at tables db d t columns held.of_tables.lists is)
+        ap (λ (k : Checked Database). made_index d.name (of_known k)) (laws.makes held.rows_at l db d t columns held.of_listed.lists is)
         ∙ (ap (λ (x : Database). made_index d.name (Makes x)) made_is ∙ ap made_by (clash_is ∙ e))
 
     reached : has_clash (as_index t index) rows ≡ false → Reaches (change_made (creating sql d) db) made
@@ -164,14 +164,14 @@ module _ (laws : Laws) (old : PageMap) (size : ℕ) (tables : List Table) (db : 
     refused f (inr (inr (inr (apart, (root, (what, long)))))) = inr (inr (record { is = what; why = inr (record { made = made; reaches = reached apart; long = (t.name, root, sym same_name, long) }) }))
 
     its_keys : HasKeyIndexes t
-    its_keys = let a = found_among (is_table d.table) tables t is.on in one_of HasKeyIndexes a.front t a.back (subst (AllByRecursion HasKeyIndexes) a.parts held.keys)
+    its_keys = let a = found_among (is_table d.table) l.tables t is.on in one_of HasKeyIndexes a.front t a.back (subst (AllByRecursion HasKeyIndexes) a.parts held.keys)
 
     -- where it is listed, the database is the one that the statement makes
-    pub creates : (new : PageMap) (tables_now : List Table) → IsListedWith new size tables db t index rows tables_now → IsMade (creating sql d) db new size tables_now
-    creates new tables_now is_listed =
+    pub creates : (new : PageMap) (now_listed : Listed) → IsListedWith new size l db t index rows now_listed → IsMade (creating sql d) db new size now_listed
+    creates new now_listed is_listed =
         let i : Index = record index { root = is_listed.root; rowid = is_listed.rowid } in record {
           made = made;
           reaches = reached is_listed.apart;
-          stored = stored_of new size tables_now made is_listed.holds
-              (subst (AllByRecursion HasKeyIndexes) (sym is_listed.listed) (all_replaced HasKeyIndexes (with_index i t) tables (keys_with_index t i refl its_keys) held.keys));
+          stored = stored_of new size now_listed made is_listed.holds
+              (subst (λ (x : Listed). AllByRecursion HasKeyIndexes x.tables) (sym is_listed.listed) (all_replaced HasKeyIndexes (with_index i t) l.tables (keys_with_index t i refl its_keys) held.keys));
         }

@@ -28,9 +28,9 @@ use Rattle.tree_index.specs.Tree.{IsIndexTree}
 use Rattle.db_layout.specs.Layout.{HoldsUnder, IsTree, Owner, ReplacesTrees, TreesStand, used_by}
 use Rattle.catalog.specs.Database as database
 use Rattle.catalog.specs.Database.{AnIndex, ATable, ATrigger, AView, Database, Name, with_object, object as object_in}
-use Rattle.catalog.specs.Listed.{as_index, is_name_of, is_table, rowids_of, table_named, with_replaced, with_rows}
-use Rattle.catalog.specs.Named.{IsOfTables}
-use Rattle.catalog.specs.NewIndexes.{ListsNewIndex, with_index}
+use Rattle.catalog.specs.Listed.{as_index, is_name_of, is_table, rowids_of, table_named, with_replaced, with_rows, Listed}
+use Rattle.catalog.specs.Named.{IsOfListed}
+use Rattle.catalog.specs.NewIndexes.{ListsNewIndex, with_index, replacing}
 use Rattle.catalog.specs.UnusedRowids.{is_among}
 use Rattle.catalog.specs.declared.tables.Index.{Index}
 use Rattle.catalog.specs.declared.tables.IndexColumn.{IndexColumn}
@@ -44,7 +44,7 @@ use Rattle.row_scan.specs.Rows.{TableRow}
 use Rattle.db_layout.specs.Trees.{AreTreesOf, HoldsNow, IsEntriesTree}
 use Rattle.index_entries.specs.Keeping.{columns_in}
 use Rattle.db_write.specs.Changing.{AddsIndex, IsIndexAdded, IsRefusedIndex, index_of, is_wide}
-use Rattle.db_pages.specs.Schema.{AreRowsOf, HasRowOf, IndexTold, TableTold, Tells, Told, all_told, schema_row, told_by}
+use Rattle.db_pages.specs.Schema.{AreRowsOf, HasRowOf, IndexTold, TableTold, Tells, Told, all_told, schema_row, told_by, tables_told}
 use Rattle.db_pages.specs.Stored.{Stores, all_trees, schema_tree}
 use Rattle.executor.specs.Changing.{IsChangeRefusal, IsIndexIn, IsMade}
 use Rattle.executor.specs.Listing.{AddsRow, AreTooLong, IsAdded}
@@ -56,7 +56,7 @@ use Rattle.executor.proofs.Owners.{HasTable, one_of, splits, table_of_parts}
 use Rattle.executor.proofs.Roots.{all_apart, used_both, uses_root}
 use Rattle.executor.proofs.Replacing.{IsSplit, found_in_place, found_is, names_once, same_folded, split_at}
 use Rattle.executor.proofs.Wide.{known_long}
-use Rattle.executor.proofs.Telling.{AreToldBy, as_rows, as_told, free_at, many_retold, map_append, more_pages, one_more, same_indexes, same_table, told_around, told_as}
+use Rattle.executor.proofs.Telling.{AreToldBy, as_rows, as_told, free_at, many_retold, map_append, more_pages, one_more, same_indexes, same_table, told_around, told_as, told_after}
 
 -- what follows for every listed database, and for the trees of its file
 pub record Laws : Type 0 where
@@ -104,13 +104,13 @@ fresh_where count n some = (low count n some, high count n some)
 fresh_once : (count n : ℕ) → fresh 0 count n ≤ 1
 fresh_once count n = grind (arith, common_steps)
 
-module _ (laws : Laws) (old : PageMap) (size : ℕ) (tables : List Table) (db : Database) (held : HoldsListed old size tables db) (t : Table) (named : table_named t.name tables ≡ Some t)
-    (index : Index) (new_name : is_name_of tables index.name ≡ false) (name : Name) (sql : Option (List ℕ)) (told_by_row : IsToldBy t index name sql) where
-  pub split : IsSplit t tables
-  split = split_at (is_table t.name) tables t (names_once tables held.of_tables.once) named
+module _ (laws : Laws) (old : PageMap) (size : ℕ) (l : Listed) (db : Database) (held : HoldsListed old size l db) (t : Table) (named : table_named t.name l.tables ≡ Some t)
+    (index : Index) (new_name : is_name_of l index.name ≡ false) (name : Name) (sql : Option (List ℕ)) (told_by_row : IsToldBy t index name sql) where
+  pub split : IsSplit t l.tables
+  split = split_at (is_table t.name) l.tables t (names_once l held.of_listed.once) named
 
-  abbrev o : HasTable held.rows_at tables held.trees.held t
-  o = table_of_parts held.rows_at tables held.trees.held split.before t split.after split.parts held.trees.each
+  abbrev o : HasTable held.rows_at l.tables held.trees.held t
+  o = table_of_parts held.rows_at l.tables held.trees.held split.before t split.after split.parts held.trees.each
 
   abbrev rows : List TableRow
   rows = held.rows_at t.root
@@ -122,16 +122,16 @@ module _ (laws : Laws) (old : PageMap) (size : ℕ) (tables : List Table) (db : 
     abbrev with_it : Table
     with_it = with_index i t
 
-    abbrev listed : List Table
-    listed = with_replaced with_it tables
+    abbrev listed : Listed
+    listed = replacing with_it l
 
     abbrev made : Database
     made = with_object db index.name (AnIndex (as_index t index))
 
-    of_made : IsOfTables held.rows_at listed made
-    of_made = laws.lists held.rows_at tables db t i held.of_tables named new_name
+    of_made : IsOfListed held.rows_at listed made
+    of_made = laws.lists held.rows_at l db t i held.of_listed named new_name
 
-    listed_are : listed ≡ split.before ++ with_it ∷ split.after
+    listed_are : listed.tables ≡ split.before ++ with_it ∷ split.after
     listed_are = split.replaced with_it refl
 
     -- ---- its tree is made
@@ -142,7 +142,7 @@ module _ (laws : Laws) (old : PageMap) (size : ℕ) (tables : List Table) (db : 
       in_order = split.before ++ with_it ∷ split.after
 
       abbrev then_trees : HoldsTrees mid size (rows_with held.rows_at t.root rows) in_order held.schema
-      then_trees = changed old size held.rows_at tables held.schema held.trees t o mid with_it rows refl o.split.is.fit now
+      then_trees = changed old size held.rows_at l.tables held.schema held.trees t o mid with_it rows refl o.split.is.fit now
 
       pub schema_then : Stands mid size 1 held.schema held.trees.schema_used now.among.free
       schema_then = schema_stands mid size (rows_with held.rows_at t.root rows) in_order held.schema then_trees laws.stand
@@ -207,7 +207,7 @@ module _ (laws : Laws) (old : PageMap) (size : ℕ) (tables : List Table) (db : 
 
       -- ---- its row
 
-      module _ (new : PageMap) (unused : is_among rowid (rowids_of tables) ≡ false)
+      module _ (new : PageMap) (unused : is_among rowid (rowids_of l) ≡ false)
           (added : IsAdded mid new size (schema_row (codes "index") name t.name root sql) held.schema held.trees.schema_used now.among.free rowid) where
         longer : length mid ≤ length new
         longer = added.becomes.moves.longer
@@ -243,17 +243,17 @@ module _ (laws : Laws) (old : PageMap) (size : ℕ) (tables : List Table) (db : 
         })
 
         abbrev front : List Told
-        front = all_told split.before
+        front = tables_told split.before
 
         abbrev back : List Told
-        back = all_told split.after
+        back = told_after split.after l.views
 
         abbrev again : List Told
         again = TableTold with_it ∷ map (λ j. IndexTold with_it j) t.indexes
 
         told_now : AreToldBy (length new) (front ++ (told_by t ++ back)) held.schema
-        told_now = told_as (length new) (all_told tables) (front ++ (told_by t ++ back)) held.schema (ap all_told split.parts ∙ told_around split.before t split.after)
-            (more_pages (length old) (length new) (let first = now.longer in omega (arith, first, longer)) (all_told tables) held.schema (as_told (length old) tables held.schema held.tell))
+        told_now = told_as (length new) (all_told l) (front ++ (told_by t ++ back)) held.schema (ap (λ (ts : List Table). all_told (record l { tables = ts })) split.parts ∙ told_around split.before t split.after l.views)
+            (more_pages (length old) (length new) (let first = now.longer in omega (arith, first, longer)) (all_told l) held.schema (as_told (length old) l held.schema held.tell))
 
         told_again : AreToldBy (length new) ((front ++ again) ++ back) held.schema
         told_again = told_as (length new) (front ++ (again ++ back)) ((front ++ again) ++ back) held.schema (sym (append_assoc front again back))
@@ -261,12 +261,12 @@ module _ (laws : Laws) (old : PageMap) (size : ℕ) (tables : List Table) (db : 
 
         told_more : AreToldBy (length new) ((front ++ again) ++ IndexTold with_it i ∷ back) (with_row added.entry held.schema)
         told_more = one_more (length new) (front ++ again) back (IndexTold with_it i) added.entry held.schema told_again
-            (subst (λ z. payload_at z held.schema ≡ None) (sym added.rowid_is) (free_at (length old) tables held.schema rowid held.tell unused)) (new_row sql refl told_by_row)
+            (subst (λ z. payload_at z held.schema ≡ None) (sym added.rowid_is) (free_at (length old) l held.schema rowid held.tell unused)) (new_row sql refl told_by_row)
 
         all_are : all_told listed ≡ (front ++ again) ++ IndexTold with_it i ∷ back
         all_are =
-            ap all_told listed_are
-            ∙ (told_around split.before with_it split.after
+            ap (λ (ts : List Table). all_told (record l { tables = ts })) listed_are
+            ∙ (told_around split.before with_it split.after l.views
             ∙ (ap (λ (xs : List Told). front ++ ((TableTold with_it ∷ xs) ++ back)) (map_append (λ j. IndexTold with_it j) t.indexes (i ∷ []))
             ∙ (ap (λ (xs : List Told). front ++ xs) (append_assoc again (IndexTold with_it i ∷ []) back) ∙ sym (append_assoc front again (IndexTold with_it i ∷ back)))))
 
@@ -276,15 +276,15 @@ module _ (laws : Laws) (old : PageMap) (size : ℕ) (tables : List Table) (db : 
         abbrev holds_more : HoldsListed new size listed made
         holds_more = record {
           rows_at = rows_with held.rows_at t.root rows;
-          of_tables = subst (λ (rs : ℕ → List TableRow). IsOfTables rs listed made) (sym (rows_same held.rows_at t.root)) of_made;
+          of_listed = subst (λ (rs : ℕ → List TableRow). IsOfListed rs listed made) (sym (rows_same held.rows_at t.root)) of_made;
           schema = with_row added.entry held.schema;
           tell = told;
           trees = subst (λ (ts : List Table). HoldsTrees new size (rows_with held.rows_at t.root rows) ts (with_row added.entry held.schema)) (sym listed_are)
               (with_schema mid size (rows_with held.rows_at t.root rows) in_order held.schema then_trees laws.give_way new (with_row added.entry held.schema) added.becomes);
         }
 
-        pub lists : (tables_now : List Table) → tables_now ≡ listed → IsListedWith new size tables db t index rows tables_now
-        lists tables_now same = subst (IsListedWith new size tables db t index rows) (sym same) (record {
+        pub lists : (now_listed : Listed) → now_listed ≡ listed → IsListedWith new size l db t index rows now_listed
+        lists now_listed same = subst (IsListedWith new size l db t index rows) (sym same) (record {
           root = root;
           rowid = rowid;
           apart = apart;
@@ -296,8 +296,8 @@ module _ (laws : Laws) (old : PageMap) (size : ℕ) (tables : List Table) (db : 
   -- ---- the call that makes its tree
 
   pub refused_tree : (mid : PageMap) (f : Fault) → AddsIndex old mid size t index.columns index.is_unique (Err f) → IsListingRefusal t index name sql rows f
-  refused_tree mid f adds = by (adds (schema_tree held.schema held.trees.schema_used) (all_trees o.split.before) (all_trees o.split.after) rows (page_size old size held.rows_at tables held.schema held.trees) refl
-      (among old size held.rows_at tables held.schema held.trees t o) o.split.is.fit)
+  refused_tree mid f adds = by (adds (schema_tree held.schema held.trees.schema_used) (all_trees o.split.before) (all_trees o.split.after) rows (page_size old size held.rows_at l.tables held.schema held.trees) refl
+      (among old size held.rows_at l.tables held.schema held.trees t o) o.split.is.fit)
     where
       by : IsRefusedIndex index.columns index.is_unique rows f → IsListingRefusal t index name sql rows f
       by (inl full) = inl full
@@ -308,11 +308,11 @@ module _ (laws : Laws) (old : PageMap) (size : ℕ) (tables : List Table) (db : 
   then_added : (mid : PageMap) (root : ℕ) → AddsIndex old mid size t index.columns index.is_unique (Ok root)
       → IsIndexAdded old mid size (schema_tree held.schema held.trees.schema_used) (all_trees o.split.before) t index.columns index.is_unique rows (all_trees o.split.after) root
   then_added mid root adds =
-      adds (schema_tree held.schema held.trees.schema_used) (all_trees o.split.before) (all_trees o.split.after) rows (page_size old size held.rows_at tables held.schema held.trees) refl
-      (among old size held.rows_at tables held.schema held.trees t o) o.split.is.fit
+      adds (schema_tree held.schema held.trees.schema_used) (all_trees o.split.before) (all_trees o.split.after) rows (page_size old size held.rows_at l.tables held.schema held.trees) refl
+      (among old size held.rows_at l.tables held.schema held.trees t o) o.split.is.fit
 
   -- the calls that make its tree and add its row, one after the other
-  module _ (root : ℕ) (rowid : ℤ) (mid new : PageMap) (makes : AddsIndex old mid size t index.columns index.is_unique (Ok root)) (unused : is_among rowid (rowids_of tables) ≡ false) where
+  module _ (root : ℕ) (rowid : ℤ) (mid new : PageMap) (makes : AddsIndex old mid size t index.columns index.is_unique (Ok root)) (unused : is_among rowid (rowids_of l) ≡ false) where
     then_now : HoldsNow old mid size (schema_tree held.schema held.trees.schema_used) (all_trees o.split.before) (with_index (i root rowid) t) rows (all_trees o.split.after)
     then_now = (then_added mid root makes).has (i root rowid) refl refl
 
@@ -320,7 +320,7 @@ module _ (laws : Laws) (old : PageMap) (size : ℕ) (tables : List Table) (db : 
     apart = (then_added mid root makes).apart
 
     row_unused : payload_at rowid held.schema ≡ None
-    row_unused = free_at (length old) tables held.schema rowid held.tell unused
+    row_unused = free_at (length old) l held.schema rowid held.tell unused
 
     abbrev row_values : List Value
     row_values = schema_row (codes "index") name t.name root sql
@@ -332,6 +332,6 @@ module _ (laws : Laws) (old : PageMap) (size : ℕ) (tables : List Table) (db : 
         by (inl full) = inl full
         by (inr long) = inr (inr (inr (apart, (root, long))))
 
-    pub row_added : AddsRow mid new size rowid row_values (Ok tt) → (tables_now : List Table) → tables_now ≡ with_replaced (with_index (i root rowid) t) tables → IsListedWith new size tables db t index rows tables_now
-    row_added adds tables_now same =
-        lists root rowid mid then_now apart new unused (adds held.schema held.trees.schema_used then_now.among.free (schema_then root rowid mid then_now apart) row_unused) tables_now same
+    pub row_added : AddsRow mid new size rowid row_values (Ok tt) → (now_listed : Listed) → now_listed ≡ replacing (with_index (i root rowid) t) l → IsListedWith new size l db t index rows now_listed
+    row_added adds now_listed same =
+        lists root rowid mid then_now apart new unused (adds held.schema held.trees.schema_used then_now.among.free (schema_then root rowid mid then_now apart) row_unused) now_listed same

@@ -19,9 +19,9 @@ use Rattle.pages.specs.Map.{PageMap}
 use Rattle.db_layout.specs.Trees.{AreAmong}
 use Rattle.catalog.specs.Database as database
 use Rattle.catalog.specs.Database.{ATable, Database, Name, Object, with_object}
-use Rattle.catalog.specs.Laws.{KeepsOnlyPlain, ListsOtherRows}
-use Rattle.catalog.specs.Listed.{Lists, has_only_plain, is_table, table_named, with_rows}
-use Rattle.catalog.specs.Named.{IsOfTables, KeepsNamed, ListsIndexes}
+use Rattle.catalog.specs.Laws.{KeepsNoTrigger, ListsOtherRows}
+use Rattle.catalog.specs.Listed.{Lists, has_no_trigger, is_table, table_named, with_rows, Listed}
+use Rattle.catalog.specs.Named.{IsOfListed, KeepsNamed, ListsIndexes}
 use Rattle.catalog.specs.declared.tables.Column.{Column}
 use Rattle.catalog.specs.declared.tables.Table.{Table}
 use Rattle.query_names.specs.Bound.{columns_seen, count_wanted, is_twice_named, looked_up}
@@ -29,7 +29,6 @@ use Rattle.query_names.specs.Checked.{Checked, Meant, faults, good, known_map, m
 use Rattle.query_names.specs.Inserts.{AreColumns, IsTargetFault, places_in}
 use Rattle.query_names.specs.Views.{look_up}
 use Rattle.query_names.proofs.ColumnNames.{folded_twice}
-use Rattle.query_names.proofs.KnownTables.{known_listed}
 use Rattle.row_scan.specs.Rows.{TableRow}
 use Rattle.row_change.specs.Agreement.{IsSetFor}
 use Rattle.row_change.specs.Changes.{Given, Inserts, Resolved, no_outer, resolve_change, resolve_given}
@@ -51,11 +50,13 @@ use Rattle.executor.proofs.Roots.{own_pages}
 use Rattle.executor.proofs.FoundTables.{indexes_listed, table_found}
 use Rattle.executor.proofs.Replacing.{found_is, same_folded}
 use Rattle.executor.proofs.Wide.{indexes_of_table, wide_in}
+use Rattle.executor.proofs.KnownSources.{known_as}
+use Rattle.executor.specs.Refusing.{is_view_named}
 
 -- what follows for every listed database, and for the trees of its file
 pub record Laws : Type 0 where
   pub lists : ListsOtherRows
-  pub tables : KeepsOnlyPlain
+  pub quiet : KeepsNoTrigger
   pub named : KeepsNamed
   pub binds : BindsAlone
   pub refused : InsertIsRefused
@@ -73,13 +74,13 @@ pub named_folded : (tables : List Table) (name : Name) (t : Table) → table_nam
 named_folded tables name t named = named_as tables (folded name) name (folded_twice name) ∙ named
 
 -- a listed table of the database
-pub listed_table : (rows_at : ℕ → List TableRow) (tables : List Table) (db : Database) (name : Name) (t : Table) → Lists rows_at tables db → table_named name tables ≡ Some t
+pub listed_table : (rows_at : ℕ → List TableRow) (l : Listed) (db : Database) (name : Name) (t : Table) → Lists rows_at l db → table_named name l.tables ≡ Some t
     → table_of db (folded name) ≡ Ok (with_rows t (rows_at t.root))
-listed_table rows_at tables db name t lists named =
-    ap table_in (table_found rows_at tables db (folded name) t lists (named_folded tables name t named))
+listed_table rows_at l db name t lists named =
+    ap table_in (table_found rows_at l db (folded name) t lists (named_folded l.tables name t named))
 
 -- binding it isn't refused
-pub not_refused : Laws → (db : Database) (i : Insert) (what : Resolved) → has_only_plain db ≡ true → resolve_change db no_outer (kind.Insert i) ≡ Meant what [] → (r : Refusal) → IsFault db (kind.Insert i) r → ⊥
+pub not_refused : Laws → (db : Database) (i : Insert) (what : Resolved) → has_no_trigger db ≡ true → resolve_change db no_outer (kind.Insert i) ≡ Meant what [] → (r : Refusal) → IsFault db (kind.Insert i) r → ⊥
 not_refused laws db i what only stands r is = nothing (subst (λ (k : Checked Resolved). Contains (faults k) r) stands ((laws.binds db (kind.Insert i) r only).0 is))
   where
     nothing : Contains [] r → ⊥
@@ -90,16 +91,16 @@ not_refused laws db i what only stands r is = nothing (subst (λ (k : Checked Re
 abbrev work : Insert → Database → Refusal → Type 0
 work i db r = RefusesWith (change_made (inserting i) db) r
 
-pub target_refused : (laws : Laws) (pages : PageMap) (size : ℕ) (tables : List Table) (db : Database) (held : Stores pages size tables db) (i : Insert) (f : Fault) → IsTargetFault tables i f
+pub target_refused : (laws : Laws) (pages : PageMap) (size : ℕ) (l : Listed) (db : Database) (held : Stores pages size l db) (i : Insert) (plain : is_view_named l i.table ≡ false) (f : Fault) → IsTargetFault l.tables i f
     → IsChangeRefusal (inserting i) db f
-target_refused laws pages size tables db held i f (inl memory) = inl (inl (inl memory))
-target_refused laws pages size tables db held i f (inr (inl (e, none))) =
-    inr (inl (inl ((laws.binds db (kind.Insert i) (refusal_of f) held.of_tables.only).1
+target_refused laws pages size l db held i plain f (inl memory) = inl (inl (inl memory))
+target_refused laws pages size l db held i plain f (inr (inl (e, none))) =
+    inr (inl (inl ((laws.binds db (kind.Insert i) (refusal_of f) held.of_listed.quiet).1
     (subst (Contains (faults (resolve_change db no_outer (kind.Insert i)))) (sym e)
-    (table_missing db i.table i.columns i.source (known_listed held.rows_at tables db held.of_tables.lists i.table ∙ ap looked_up none))))))
-target_refused laws pages size tables db held i f (inr (inr (t, named, list))) =
-    inr (inl (inl ((laws.binds db (kind.Insert i) (refusal_of f) held.of_tables.only).1
-    (columns_refused db i.table i.source t (known_listed held.rows_at tables db held.of_tables.lists i.table ∙ ap looked_up named) (held.once i.table t named) i.columns (refusal_of f) list))))
+    (table_missing db i.table i.columns i.source (known_as held.rows_at l db held.of_listed.lists i.table plain ∙ ap looked_up none))))))
+target_refused laws pages size l db held i plain f (inr (inr (t, named, list))) =
+    inr (inl (inl ((laws.binds db (kind.Insert i) (refusal_of f) held.of_listed.quiet).1
+    (columns_refused db i.table i.source t (known_as held.rows_at l db held.of_listed.lists i.table plain ∙ ap looked_up named) (held.once i.table t named) i.columns (refusal_of f) list))))
 
 -- ---- what its source gives
 
@@ -154,10 +155,10 @@ pub record IsGivenAs (db : Database) (i : Insert) (t : Table) (places : List (Op
   pub answered : given_rows db no_outer source ≡ Ok rows
   pub placed : AllByRecursion (IsSetFor t places at) rows
 
-module _ (laws : Laws) (pages : PageMap) (size : ℕ) (tables : List Table) (db : Database) (held : Stores pages size tables db) (i : Insert) (t : Table) (n : ℕ) (named : table_named i.table tables ≡ Some t)
+module _ (laws : Laws) (pages : PageMap) (size : ℕ) (l : Listed) (db : Database) (held : Stores pages size l db) (i : Insert) (plain : is_view_named l i.table ≡ false) (t : Table) (n : ℕ) (named : table_named i.table l.tables ≡ Some t)
     (columns : AreColumns t.columns i.columns) (n_is : n ≡ count_wanted i.columns t) where
   found : look_up db i.table ≡ good (columns_seen t)
-  found = known_listed held.rows_at tables db held.of_tables.lists i.table ∙ ap looked_up named
+  found = known_as held.rows_at l db held.of_listed.lists i.table plain ∙ ap looked_up named
 
   once : is_twice_named t.columns ≡ false
   once = held.once i.table t named
@@ -167,7 +168,7 @@ module _ (laws : Laws) (pages : PageMap) (size : ℕ) (tables : List Table) (db 
 
   pub rows_refused : (f : Fault) → AnswersRead {X = List (List Value)} (λ rows. rows) (given_on db n i.source) (Err f) → IsChangeRefusal (inserting i) db f
   rows_refused f (inl outside) = inl (inl outside)
-  rows_refused f (inr (inl has)) = inr (inl (inl ((laws.binds db (kind.Insert i) (refusal_of f) held.of_tables.only).1
+  rows_refused f (inr (inl has)) = inr (inl (inl ((laws.binds db (kind.Insert i) (refusal_of f) held.of_listed.quiet).1
       (source_refused db i.table i.source t found once i.columns (refusal_of f) (subst (λ m. Contains (faults (source_known db m i)) (refusal_of f)) n_is (in_it (source_known db n i) has))))))
     where
       in_it : (k : Checked Given) → Contains (faults (known_map (given_rows db no_outer) k)) (refusal_of f) → Contains (faults k) (refusal_of f)
@@ -175,8 +176,8 @@ module _ (laws : Laws) (pages : PageMap) (size : ℕ) (tables : List Table) (db 
   rows_refused f (inr (inr e)) =
       let is = is_meant (given_rows db no_outer) (source_known db n i) (Err (refusal_of f)) e in
       let stands = stands_so (meant (source_known db n i)) is.0 in
-      let refused = laws.refused db i t (held.rows_at t.root) (value_places t i.columns) (meant (source_known db n i)) (refusal_of f) (listed_table held.rows_at tables db i.table t held.of_tables.lists named) stands is.1 in
-      inr (inl (inr (not_refused laws db i _ held.of_tables.only stands, subst (λ (a : Answer Database). RefusesWith (of_answer a) (refusal_of f)) (sym refused) (refused_so f))))
+      let refused = laws.refused db i t (held.rows_at t.root) (value_places t i.columns) (meant (source_known db n i)) (refusal_of f) (listed_table held.rows_at l db i.table t held.of_listed.lists named) stands is.1 in
+      inr (inl (inr (not_refused laws db i _ held.of_listed.quiet stands, subst (λ (a : Answer Database). RefusesWith (of_answer a) (refusal_of f)) (sym refused) (refused_so f))))
 
   pub given_as : (rows : List (List Value)) (places : List (Option ℕ)) → places ≡ places_in t.columns i.columns → given_on db n i.source ≡ Meant (Ok rows) [] → AllByRecursion (λ vs. length vs ≡ n) rows
       → IsGivenAs db i t places rows
@@ -208,10 +209,10 @@ some_or_none [] = inl refl
 some_or_none (x ∷ xs) = inr (omega arith)
 
 -- the database that the rows make
-pub record IsMadeOf (rows_at : ℕ → List TableRow) (tables : List Table) (db : Database) (i : Insert) (t : Table) (now : List TableRow) : Type 0 where
+pub record IsMadeOf (rows_at : ℕ → List TableRow) (l : Listed) (db : Database) (i : Insert) (t : Table) (now : List TableRow) : Type 0 where
   pub made : Database
   pub is : change db (kind.Insert i) ≡ Ok made
-  pub of_tables : IsOfTables (rows_with rows_at t.root now) tables made
+  pub of_listed : IsOfListed (rows_with rows_at t.root now) l made
 
 abbrev rows_answer : List TableRow → Answer (List TableRow)
 rows_answer rows = Ok rows
@@ -222,10 +223,10 @@ same_answer rows now e = cc
 not_none : (rows : List TableRow) (r : Refusal) → rows_answer rows ≡ Err r → ⊥
 not_none rows r e = absurd cc
 
-module _ (laws : Laws) (pages : PageMap) (size : ℕ) (tables : List Table) (db : Database) (held : Stores pages size tables db) (i : Insert) (t : Table) (places : List (Option ℕ)) (given : List (List Value)) (named : table_named i.table tables ≡ Some t)
+module _ (laws : Laws) (pages : PageMap) (size : ℕ) (l : Listed) (db : Database) (held : Stores pages size l db) (i : Insert) (t : Table) (places : List (Option ℕ)) (given : List (List Value)) (named : table_named i.table l.tables ≡ Some t)
     (is : IsGivenAs db i t places given) (long : length places ≡ length t.columns) where
-  owned : HasTable held.rows_at tables held.held t
-  owned = held_table pages size tables db held i.table t named
+  owned : HasTable held.rows_at l.tables held.held t
+  owned = held_table pages size l db held i.table t named
 
   set_for : All (IsSetFor t places is.at) given
   set_for = all_of (IsSetFor t places is.at) given is.placed
@@ -240,10 +241,10 @@ module _ (laws : Laws) (pages : PageMap) (size : ℕ) (tables : List Table) (db 
 
   change_is : 1 ≤ length given → change db (kind.Insert i) ≡ changed given
   change_is some =
-      laws.inserts db i t (held.rows_at t.root) is.at is.source places given held.of_tables.only (indexes_of_table laws.indexes held.rows_at tables db i.table t held.of_tables named)
-      (listed_table held.rows_at tables db i.table t held.of_tables.lists named) owned.split.is.fit is.stands is.answered set_for some
+      laws.inserts db i t (held.rows_at t.root) is.at is.source places given held.of_listed.quiet (indexes_of_table laws.indexes held.rows_at l db i.table t held.of_listed named)
+      (listed_table held.rows_at l db i.table t held.of_listed.lists named) owned.split.is.fit is.stands is.answered set_for some
 
-  pub made : (now : List TableRow) → rows_inserted t places (held.rows_at t.root) given ≡ Ok now → IsMadeOf held.rows_at tables db i t now
+  pub made : (now : List TableRow) → rows_inserted t places (held.rows_at t.root) given ≡ Ok now → IsMadeOf held.rows_at l db i t now
   made now e = by (some_or_none given)
     where
       same : held.rows_at t.root ≡ now → (root : ℕ) → held.rows_at root ≡ rows_with held.rows_at t.root now root
@@ -252,36 +253,36 @@ module _ (laws : Laws) (pages : PageMap) (size : ℕ) (tables : List Table) (db 
         | inr differ ↦ sym (rows_elsewhere held.rows_at t.root root now differ)
       ]
 
-      by : (given ≡ []) ⊎ (1 ≤ length given) → IsMadeOf held.rows_at tables db i t now
+      by : (given ≡ []) ⊎ (1 ≤ length given) → IsMadeOf held.rows_at l db i t now
       by (inl none) =
           let still = same_answer (held.rows_at t.root) now (subst (λ rows. rows_inserted t places (held.rows_at t.root) rows ≡ Ok now) none e) in
           record {
             made = db;
-            is = laws.none db i t (held.rows_at t.root) is.at is.source (listed_table held.rows_at tables db i.table t held.of_tables.lists named) is.stands (is.answered ∙ ap (λ (rows : List (List Value)). Ok rows) none);
-            of_tables = record {
-              lists = subst (λ (rows_at : ℕ → List TableRow). Lists rows_at tables db) (λ k root. same still root k) held.of_tables.lists;
-              only = held.of_tables.only;
-              named = held.of_tables.named;
-              once = held.of_tables.once;
+            is = laws.none db i t (held.rows_at t.root) is.at is.source (listed_table held.rows_at l db i.table t held.of_listed.lists named) is.stands (is.answered ∙ ap (λ (rows : List (List Value)). Ok rows) none);
+            of_listed = record {
+              lists = subst (λ (rows_at : ℕ → List TableRow). Lists rows_at l db) (λ k root. same still root k) held.of_listed.lists;
+              quiet = held.of_listed.quiet;
+              named = held.of_listed.named;
+              once = held.of_listed.once;
             };
           }
       by (inr some) = record {
         made = with_now now;
         is = change_is some ∙ ap (λ (a : Answer (List TableRow)). a then λ now. Ok (with_now now)) e;
-        of_tables = record {
-          lists = laws.lists held.rows_at tables db (folded i.table) t now held.of_tables.lists (named_folded tables i.table t named)
-              (λ other u found here. own_pages pages size tables db held other (folded i.table) u t found (named_folded tables i.table t named) here);
-          only = laws.tables db (folded i.table) (ATable (with_rows t now)) held.of_tables.only refl;
-          named = laws.named db (folded i.table) (ATable (with_rows t now)) held.of_tables.named;
-          once = held.of_tables.once;
+        of_listed = record {
+          lists = laws.lists held.rows_at l db (folded i.table) t now held.of_listed.lists (named_folded l.tables i.table t named)
+              (λ other u found here. own_pages pages size l db held other (folded i.table) u t found (named_folded l.tables i.table t named) here);
+          quiet = laws.quiet db (folded i.table) (ATable (with_rows t now)) held.of_listed.quiet refl;
+          named = laws.named db (folded i.table) (ATable (with_rows t now)) held.of_listed.named;
+          once = held.of_listed.once;
         };
       }
 
   pub reaches : (made : Database) → change db (kind.Insert i) ≡ Ok made → Reaches (change_made (inserting i) db) made
-  reaches made e = (not_refused laws db i _ held.of_tables.only is.stands, subst (λ (a : Answer Database). Reaches (of_answer a) made) (sym e) refl)
+  reaches made e = (not_refused laws db i _ held.of_listed.quiet is.stands, subst (λ (a : Answer Database). Reaches (of_answer a) made) (sym e) refl)
 
   pub refused : (f : Fault) → rows_inserted t places (held.rows_at t.root) given ≡ Err (refusal_of f) → work i db (refusal_of f)
-  refused f e = inr (not_refused laws db i _ held.of_tables.only is.stands, subst (λ (a : Answer Database). RefusesWith (of_answer a) (refusal_of f)) (sym (by (some_or_none given))) (refused_so f))
+  refused f e = inr (not_refused laws db i _ held.of_listed.quiet is.stands, subst (λ (a : Answer Database). RefusesWith (of_answer a) (refusal_of f)) (sym (by (some_or_none given))) (refused_so f))
     where
       by : (given ≡ []) ⊎ (1 ≤ length given) → change db (kind.Insert i) ≡ Err (refusal_of f)
       by (inl none) = absurd (not_none (held.rows_at t.root) (refusal_of f) (subst (λ rows. rows_inserted t places (held.rows_at t.root) rows ≡ Err (refusal_of f)) none e))
@@ -291,27 +292,27 @@ module _ (laws : Laws) (pages : PageMap) (size : ℕ) (tables : List Table) (db 
   put_refused f (inl outside) = inl outside
   put_refused f (inr (inl as_rows)) = inr (inl (refused f as_rows))
   put_refused f (inr (inr (what, wide))) =
-      inr (inr (record { is = what; why = inl (wide_in db t i.table (same_folded t.name i.table (found_is (is_table i.table) tables t named)) (indexes_listed held.rows_at tables db held.of_tables owned.front t owned.back owned.tables_are) wide) }))
+      inr (inr (record { is = what; why = inl (wide_in db t i.table (same_folded t.name i.table (found_is (is_table i.table) l.tables t named)) (indexes_listed held.rows_at l db held.of_listed owned.front t owned.back owned.tables_are) wide) }))
 
-  abbrev trees : HoldsTrees pages size held.rows_at tables held.schema
-  trees = trees_held pages size tables db held
+  abbrev trees : HoldsTrees pages size held.rows_at l.tables held.schema
+  trees = trees_held pages size l db held
 
   its_trees : AreAmong pages size (schema_tree held.schema held.schema_used) (all_trees owned.split.before) t (held.rows_at t.root) (all_trees owned.split.after)
-  its_trees = among pages size held.rows_at tables held.schema trees t owned
+  its_trees = among pages size held.rows_at l.tables held.schema trees t owned
 
   -- what the call that puts the rows comes to
   pub put_makes : (new : PageMap) (result : Result ⊤ Fault) → InsertsInTrees pages new size t places given result
-      → MatchResult result (λ done. IsMade (inserting i) db new size tables) (IsChangeRefusal (inserting i) db)
+      → MatchResult result (λ done. IsMade (inserting i) db new size l) (IsChangeRefusal (inserting i) db)
   put_makes new (Ok done) puts =
-      let put = puts (schema_tree held.schema held.schema_used) (all_trees owned.split.before) (all_trees owned.split.after) (held.rows_at t.root) (page_size pages size held.rows_at tables held.schema trees) refl its_trees owned.split.is.fit in
+      let put = puts (schema_tree held.schema held.schema_used) (all_trees owned.split.before) (all_trees owned.split.after) (held.rows_at t.root) (page_size pages size held.rows_at l.tables held.schema trees) refl its_trees owned.split.is.fit in
       let m = made put.now put.answer in
       record {
         made = m.made;
         reaches = reaches m.made m.is;
-        stored = stores_rows pages new size tables db m.made held t put.now owned put.hold m.of_tables;
+        stored = stores_rows pages new size l db m.made held t put.now owned put.hold m.of_listed;
       }
   put_makes new (Err f) puts =
-      put_refused f (puts (schema_tree held.schema held.schema_used) (all_trees owned.split.before) (all_trees owned.split.after) (held.rows_at t.root) (page_size pages size held.rows_at tables held.schema trees) refl its_trees owned.split.is.fit)
+      put_refused f (puts (schema_tree held.schema held.schema_used) (all_trees owned.split.before) (all_trees owned.split.after) (held.rows_at t.root) (page_size pages size held.rows_at l.tables held.schema trees) refl its_trees owned.split.is.fit)
 
 -- a call that passes a refusal on
 pub passed_on : (P : ⊤ → Type 0) (Q : Fault → Type 0) (r : Result ⊤ Fault) (f : Fault) → IsErrAnd r (λ e. e ≡ f) → Q f → MatchResult r P Q

@@ -12,8 +12,8 @@ use Rattle.sqlval.specs.declared.collation.Collation.{Collation}
 use Rattle.sqlval.specs.declared.fault.Fault.{Fault}
 use Rattle.pages.specs.Map.{PageMap}
 use Rattle.catalog.specs.Database.{AnIndex, Database, Name, Object, name_order, with_object}
-use Rattle.catalog.specs.Listed.{as_index, has_index, has_table_name, is_name_of, is_reserved, is_table, key_columns, table_named, with_replaced}
-use Rattle.catalog.specs.NewIndexes.{with_index}
+use Rattle.catalog.specs.Listed.{as_index, has_index, has_table_name, is_name_of, is_reserved, is_table, key_columns, table_named, with_replaced, Listed, is_view}
+use Rattle.catalog.specs.NewIndexes.{with_index, replacing}
 use Rattle.catalog.specs.declared.tables.Index.{Index}
 use Rattle.catalog.specs.declared.tables.IndexColumn.{IndexColumn}
 use Rattle.catalog.specs.declared.tables.Table.{Table}
@@ -146,13 +146,13 @@ at_middle p (x ∷ front) t back none = at_middle p front t back (neither (p x) 
 -- ---- one after another
 
 -- what a call comes to that lists an index with a table
-abbrev pub Lists : {X : Type 0} → (X → List Table) → PageMap → PageMap → ℕ → List Table → Table → Index → Name → Result X Fault → Type 0
-Lists tables_by mid last size now t index own result = (d : Database) (h : HoldsListed mid size now d) → table_named t.name now ≡ Some t → is_name_of now index.name ≡ false → IsToldBy t index own None
-    → MatchResult result (λ x. IsListedWith last size now d t index (h.rows_at t.root) (tables_by x)) (IsListingRefusal t index own None (h.rows_at t.root))
+abbrev pub Lists : {X : Type 0} → (X → Listed) → PageMap → PageMap → ℕ → Listed → Table → Index → Name → Result X Fault → Type 0
+Lists listed_by mid last size now t index own result = (d : Database) (h : HoldsListed mid size now d) → table_named t.name now.tables ≡ Some t → is_name_of now index.name ≡ false → IsToldBy t index own None
+    → MatchResult result (λ x. IsListedWith last size now d t index (h.rows_at t.root) (listed_by x)) (IsListingRefusal t index own None (h.rows_at t.root))
 
-module _ (old : PageMap) (size : ℕ) (before : List Table) (db : Database) (held : HoldsListed old size before db) (table : Table) (named : table_named table.name before ≡ Some table) where
-  split : IsSplit table before
-  split = split_at (is_table table.name) before table (names_once before held.of_tables.once) named
+module _ (old : PageMap) (size : ℕ) (before : Listed) (db : Database) (held : HoldsListed old size before db) (table : Table) (named : table_named table.name before.tables ≡ Some table) where
+  split : IsSplit table before.tables
+  split = split_at (is_table table.name) before.tables table (names_once before held.of_listed.once) named
 
   -- before the first
   pub none_keyed : table.indexes ≡ [] → held.rows_at table.root ≡ [] → IsKeyed old size before db table 0 before
@@ -161,12 +161,12 @@ module _ (old : PageMap) (size : ℕ) (before : List Table) (db : Database) (hel
     alike = refl;
     automatic = subst (AllByRecursion (λ (i : Index). i.is_automatic ≡ true)) (sym bare) tt;
     keys = ap (map (λ (i : Index). (i.name, AnIndex (as_index table i)))) bare;
-    listed = sym (split.replaced table refl ∙ sym split.parts);
+    listed = ap (λ (ts : List Table). record before { tables = ts }) (sym (split.replaced table refl ∙ sym split.parts));
     holds = held;
     empty = empty;
   }
 
-  module _ (new_names : AreNewNames before table.name) (mid : PageMap) (place : ℕ) (small : place + 1 < 2 ^ 64) (now : List Table) (k : IsKeyed mid size before db table place now) where
+  module _ (new_names : AreNewNames before table.name) (mid : PageMap) (place : ℕ) (small : place + 1 < 2 ^ 64) (now : Listed) (k : IsKeyed mid size before db table place now) where
     same_name : k.keyed.name ≡ table.name
     same_name = ap (λ (u : Table). u.name) k.alike
 
@@ -177,10 +177,10 @@ module _ (old : PageMap) (size : ℕ) (before : List Table) (db : Database) (hel
     same_keys = ap (λ (u : Table). u.keys) k.alike
 
     -- the table is found by its name
-    pub found_now : (name : Name) → folded name ≡ folded table.name → table_named name now ≡ Some k.keyed
+    pub found_now : (name : Name) → folded name ≡ folded table.name → table_named name now.tables ≡ Some k.keyed
     found_now name same =
-        ap (λ (ts : List Table). table_named name ts) k.listed
-        ∙ (named_as (with_replaced k.keyed before) name table.name same ∙ found_in_place table k.keyed same_name before named)
+        ap (λ (x : Listed). table_named name x.tables) k.listed
+        ∙ (named_as (with_replaced k.keyed before.tables) name table.name same ∙ found_in_place table k.keyed same_name before.tables named)
 
     module _ (columns : List IndexColumn) (here : slice_get table.keys place ≡ Some columns) where
       abbrev own_name : Name
@@ -204,11 +204,14 @@ module _ (old : PageMap) (size : ℕ) (before : List Table) (db : Database) (hel
       -- its name is new
       pub name_is_new : is_name_of now index.name ≡ false
       name_is_new =
-          ap (λ (ts : List Table). is_name_of ts index.name) (k.listed ∙ split.replaced k.keyed same_name)
-          ∙ any_between (has_table_name index.name) split.before table k.keyed split.after none_before none_here
+          ap (λ (x : Listed). is_name_of x index.name) (k.listed ∙ ap (λ (ts : List Table). record before { tables = ts }) (split.replaced k.keyed same_name))
+          ∙ (ap (λ b. b || list_any (is_view index.name) before.views) (any_between (has_table_name index.name) split.before table k.keyed split.after none_before none_here) ∙ both_new.1)
         where
+          both_new : (list_any (has_table_name index.name) before.tables ≡ false) × (list_any (is_view index.name) before.views ≡ false)
+          both_new = neither (list_any (has_table_name index.name) before.tables) (list_any (is_view index.name) before.views) (new_names (place + 1))
+
           none_before : list_any (has_table_name index.name) (split.before ++ table ∷ split.after) ≡ false
-          none_before = subst (λ (ts : List Table). is_name_of ts index.name ≡ false) split.parts (new_names (place + 1))
+          none_before = subst (λ (ts : List Table). list_any (has_table_name index.name) ts ≡ false) split.parts both_new.0
 
           names_any : (n : Name) (is : List Index) → list_any (λ (i : Index). is_same_name i.name n) is ≡ list_any (λ (o : Name × Object). is_same_name o.0 n) (map (λ (i : Index). (i.name, AnIndex (as_index table i))) is)
           names_any n [] = refl
@@ -232,7 +235,7 @@ module _ (old : PageMap) (size : ℕ) (before : List Table) (db : Database) (hel
           ∙ (sym (with_last db (take place (due_objects table)) due) ∙ ap (with_objects db) (sym next_due))))
 
       -- one more
-      pub more_keyed : (last : PageMap) (after : List Table) → IsListedWith last size now so_far k.keyed index (k.holds.rows_at k.keyed.root) after → IsKeyed last size before db table (place + 1) after
+      pub more_keyed : (last : PageMap) (after : Listed) → IsListedWith last size now so_far k.keyed index (k.holds.rows_at k.keyed.root) after → IsKeyed last size before db table (place + 1) after
       more_keyed last after more =
           let i : Index = record index { root = more.root; rowid = more.rowid } in
           let empty : more.holds.rows_at table.root ≡ [] = ap more.holds.rows_at (sym same_root) ∙ (more.rows_are ∙ (ap k.holds.rows_at same_root ∙ k.empty)) in
@@ -243,7 +246,7 @@ module _ (old : PageMap) (size : ℕ) (before : List Table) (db : Database) (hel
             keys = map-append (λ (j : Index). (j.name, AnIndex (as_index table j))) k.keyed.indexes (i ∷ [])
                 ∙ (ap (λ (os : List (Name × Object)). os ++ due_object table.name (place + 1) (key_columns columns) ∷ []) k.keys
                 ∙ (ap (λ (n : ℕ). take place (due_objects table) ++ due_object table.name n (key_columns columns) ∷ []) (turned_sum place) ∙ sym next_due));
-            listed = more.listed ∙ (ap (with_replaced (with_index i k.keyed)) k.listed ∙ replaced_twice before k.keyed (with_index i k.keyed) refl);
+            listed = more.listed ∙ (ap (replacing (with_index i k.keyed)) k.listed ∙ ap (λ (ts : List Table). record before { tables = ts }) (replaced_twice before.tables k.keyed (with_index i k.keyed) refl));
             holds = both.0;
             empty = both.1;
           }
@@ -260,29 +263,29 @@ module _ (old : PageMap) (size : ℕ) (before : List Table) (db : Database) (hel
       key_refused f (inr (inr (inr (apart, (root, long))))) = inr (inr (place + 1, root, subst (λ (n : Name). AreTooLong (schema_row (codes "index") own_name n root None) f) same_name long))
 
     -- what the call comes to that lists the next one
-    core : {X : Type 0} (tables_by : X → List Table) (columns : List IndexColumn) (here : slice_get table.keys place ≡ Some columns) (last : PageMap) (result : Result X Fault)
-        → Lists tables_by mid last size now k.keyed (key_index columns (automatic_name table.name (place + 1))) (automatic_name table.name (place + 1)) result
-        → MatchResult result (λ x. IsKeyed last size before db table (place + 1) (tables_by x)) (IsKeyRefusal table)
-    core tables_by columns here last (Ok x) lists =
-        more_keyed columns here last (tables_by x) (lists (with_objects db (take place (due_objects table))) k.holds (found_now k.keyed.name (ap folded same_name)) (name_is_new columns here) (told columns here))
-    core tables_by columns here last (Err f) lists =
+    core : {X : Type 0} (listed_by : X → Listed) (columns : List IndexColumn) (here : slice_get table.keys place ≡ Some columns) (last : PageMap) (result : Result X Fault)
+        → Lists listed_by mid last size now k.keyed (key_index columns (automatic_name table.name (place + 1))) (automatic_name table.name (place + 1)) result
+        → MatchResult result (λ x. IsKeyed last size before db table (place + 1) (listed_by x)) (IsKeyRefusal table)
+    core listed_by columns here last (Ok x) lists =
+        more_keyed columns here last (listed_by x) (lists (with_objects db (take place (due_objects table))) k.holds (found_now k.keyed.name (ap folded same_name)) (name_is_new columns here) (told columns here))
+    core listed_by columns here last (Err f) lists =
         key_refused columns here f (lists (with_objects db (take place (due_objects table))) k.holds (found_now k.keyed.name (ap folded same_name)) (name_is_new columns here) (told columns here))
 
-    pub step : {X : Type 0} (tables_by : X → List Table) (name : Name) → folded name ≡ folded table.name → (t : Table) → table_named name now ≡ Some t → (columns : List IndexColumn) → slice_get t.keys place ≡ Some columns
-        → (own : Name) → own ≡ automatic_name t.name (place + 1) → (index : Index) → index ≡ key_index columns own → (last : PageMap) (result : Result X Fault) → Lists tables_by mid last size now t index own result
-        → MatchResult result (λ x. IsKeyed last size before db table (place + 1) (tables_by x)) (IsKeyRefusal table)
-    step {X} tables_by name same t found columns here own own_is index index_is last result lists =
+    pub step : {X : Type 0} (listed_by : X → Listed) (name : Name) → folded name ≡ folded table.name → (t : Table) → table_named name now.tables ≡ Some t → (columns : List IndexColumn) → slice_get t.keys place ≡ Some columns
+        → (own : Name) → own ≡ automatic_name t.name (place + 1) → (index : Index) → index ≡ key_index columns own → (last : PageMap) (result : Result X Fault) → Lists listed_by mid last size now t index own result
+        → MatchResult result (λ x. IsKeyed last size before db table (place + 1) (listed_by x)) (IsKeyRefusal table)
+    step {X} listed_by name same t found columns here own own_is index index_is last result lists =
         subst (λ (u : Table). (columns : List IndexColumn) → slice_get u.keys place ≡ Some columns → (own : Name) → own ≡ automatic_name u.name (place + 1) → (index : Index) → index ≡ key_index columns own
-        → Lists tables_by mid last size now u index own result → MatchResult result (λ x. IsKeyed last size before db table (place + 1) (tables_by x)) (IsKeyRefusal table))
+        → Lists listed_by mid last size now u index own result → MatchResult result (λ x. IsKeyed last size before db table (place + 1) (listed_by x)) (IsKeyRefusal table))
         (sym (one_same t k.keyed (sym found ∙ found_now name same))) at_keyed columns here own own_is index index_is lists
       where
         at_keyed : (columns : List IndexColumn) → slice_get k.keyed.keys place ≡ Some columns → (own : Name) → own ≡ automatic_name k.keyed.name (place + 1) → (index : Index) → index ≡ key_index columns own
-            → Lists tables_by mid last size now k.keyed index own result → MatchResult result (λ x. IsKeyed last size before db table (place + 1) (tables_by x)) (IsKeyRefusal table)
+            → Lists listed_by mid last size now k.keyed index own result → MatchResult result (λ x. IsKeyed last size before db table (place + 1) (listed_by x)) (IsKeyRefusal table)
         at_keyed columns here own own_is index index_is lists =
             let named_so : own ≡ automatic_name table.name (place + 1) = own_is ∙ ap (λ (n : Name). automatic_name n (place + 1)) same_name in
-            core tables_by columns (sym (ap (λ (ks : List (List IndexColumn)). slice_get ks place) same_keys) ∙ here) last result
-            (subst (λ (o : Name). Lists tables_by mid last size now k.keyed (key_index columns o) o result) named_so
-            (subst (λ (i : Index). Lists tables_by mid last size now k.keyed i own result) index_is lists))
+            core listed_by columns (sym (ap (λ (ks : List (List IndexColumn)). slice_get ks place) same_keys) ∙ here) last result
+            (subst (λ (o : Name). Lists listed_by mid last size now k.keyed (key_index columns o) o result) named_so
+            (subst (λ (i : Index). Lists listed_by mid last size now k.keyed i own result) index_is lists))
 
 -- the names that find a table are its own, in letters of either case
 pub own_name_of : (before : List Table) (name : Name) (table : Table) → table_named name before ≡ Some table → folded name ≡ folded table.name

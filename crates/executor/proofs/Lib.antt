@@ -12,6 +12,10 @@ pub mod IndexListings
 pub mod Insertions
 pub mod KeyCreations
 pub mod KeyIndexes
+mod KeptViews
+mod KnownSources
+mod ViewCreations
+mod ViewDroppings
 pub mod LoadedSources
 pub mod NewNames
 pub mod Owners
@@ -26,3 +30,5 @@ pub mod Updates
 pub mod WrittenRows
 pub mod SchemaTaking
 mod Wide
+mod RefusedViews
+mod ViewRows

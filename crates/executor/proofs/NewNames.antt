@@ -11,17 +11,18 @@ use Rattle.sqlval.specs.declared.collation.Collation.{Collation}
 use Rattle.tree_leaf.specs.Leaf.{Entry}
 use Rattle.tree_page.specs.Cells.{Pairwise}
 use Rattle.catalog.specs.Database.{AnIndex, Name, Object}
-use Rattle.catalog.specs.Listed.{as_index, has_index, has_table_name, is_name_of, is_reserved, is_table, key_columns}
+use Rattle.catalog.specs.Listed.{as_index, has_index, has_table_name, is_name_of, is_reserved, is_table, key_columns, Listed, is_view}
 use Rattle.catalog.specs.declared.tables.Index.{Index}
 use Rattle.catalog.specs.declared.tables.Table.{Table}
 use Rattle.query_names.specs.Schema.{automatic, automatic_name}
 use Rattle.query_names.proofs.ColumnNames.{folded_twice}
-use Rattle.db_pages.specs.Schema.{AreRowsOf, HasKeyIndexes, IndexTold, TableTold, Tells, Told, all_told, automatic_objects, due_objects, told_by}
+use Rattle.db_pages.specs.Schema.{AreRowsOf, HasKeyIndexes, IndexTold, TableTold, Tells, Told, all_told, automatic_objects, due_objects, told_by, ViewTold, tables_told}
 use Rattle.db_pages.proofs.Reordering.{all_reordered, reordered_all}
 use Rattle.executor.specs.Holding.{AreNewNames}
 use Rattle.executor.proofs.FoundTables.{neither}
 use Rattle.executor.proofs.Replacing.{folded_same, not_same}
 use Rattle.executor.proofs.Telling.{all_after, map_append}
+use Rattle.catalog.specs.declared.tables.View.{View}
 
 -- ---- digits
 
@@ -109,6 +110,7 @@ not_reserved name table n free =
 abbrev IsFreeTold : Told → Type 0
 IsFreeTold (TableTold t) = is_reserved t.name ≡ false
 IsFreeTold (IndexTold t i) = (is_reserved i.name ≡ false) ⊎ (i.is_automatic ≡ true)
+IsFreeTold (ViewTold v) = is_reserved v.definition.name ≡ false
 
 told_free : (pages : ℕ) (items : List Told) (rows : List Entry) → Pairwise (Tells pages) items rows → AllByRecursion IsFreeTold items
 told_free pages [] rows each = tt
@@ -119,6 +121,7 @@ told_free pages (IndexTold t i ∷ items) (row ∷ rows) each = (by each.0, told
     by : Tells pages (IndexTold t i) row → IsFreeTold (IndexTold t i)
     by (inl is) = inl (ap is_reserved is.makes.name_is ∙ is.makes.free)
     by (inr is) = inr is.automatic
+told_free pages (ViewTold v ∷ items) (row ∷ rows) each = (each.0.free, told_free pages items rows each.1)
 
 -- ---- names of automatic indexes
 
@@ -167,17 +170,28 @@ module _ (name : Name) (number : ℕ) where
   other_indexes t (i ∷ is) more other free of_keys =
       ap (λ b. b || list_any (λ (i : Index). is_same_name i.name wanted) is) (other_index t i other free.0 of_keys.0) ∙ other_indexes t is more other free.1 of_keys.1
 
-  other_names : (tables : List Table) → AllByRecursion IsFreeTold (all_told tables) → AllByRecursion HasKeyIndexes tables → is_name_of tables name ≡ false → is_name_of tables wanted ≡ false
+  other_names : (tables : List Table) → AllByRecursion IsFreeTold (tables_told tables) → AllByRecursion HasKeyIndexes tables → list_any (has_table_name name) tables ≡ false → list_any (has_table_name wanted) tables ≡ false
   other_names [] free keys none = refl
   other_names (t ∷ ts) free keys none =
-      let here = neither (has_table_name name t) (is_name_of ts name) none in
+      let here = neither (has_table_name name t) (list_any (has_table_name name) ts) none in
       let own = neither (is_table name t) (has_index name t) here.0 in
-      ap (λ b. (b || has_index wanted t) || is_name_of ts wanted) (not_reserved t.name name number free.0)
-      ∙ (ap (λ b. b || is_name_of ts wanted) (other_indexes t t.indexes (all_told ts) own.0 free.1 (numbered t keys.0))
-      ∙ other_names ts (all_after IsFreeTold (told_by t) (all_told ts) free) keys.1 here.1)
+      ap (λ b. (b || has_index wanted t) || list_any (has_table_name wanted) ts) (not_reserved t.name name number free.0)
+      ∙ (ap (λ b. b || list_any (has_table_name wanted) ts) (other_indexes t t.indexes (tables_told ts) own.0 free.1 (numbered t keys.0))
+      ∙ other_names ts (all_after IsFreeTold (told_by t) (tables_told ts) free) keys.1 here.1)
 
--- where no table or index has a name, none has that of an automatic index of a table of this name
-pub automatic_names_are_new : (pages : ℕ) (tables : List Table) (rows : List Entry) → AreRowsOf pages tables rows → AllByRecursion HasKeyIndexes tables → (name : Name) → is_name_of tables name ≡ false
-    → AreNewNames tables name
-automatic_names_are_new pages tables rows tell keys name none number =
-    other_names name number tables (all_reordered IsFreeTold tell.told (all_told tables) tell.all (told_free pages tell.told rows tell.each)) keys none
+  other_views : (views : List View) → AllByRecursion IsFreeTold (map ViewTold views) → list_any (is_view wanted) views ≡ false
+  other_views [] free = refl
+  other_views (v ∷ vs) free = ap (λ b. b || list_any (is_view wanted) vs) (not_reserved v.definition.name name number free.0) ∙ other_views vs free.1
+
+all_before : {A : Type 0} (P : A → Type 0) (xs ys : List A) → AllByRecursion P (xs ++ ys) → AllByRecursion P xs
+all_before P [] ys all = tt
+all_before P (x ∷ xs) ys all = (all.0, all_before P xs ys all.1)
+
+-- where nothing that is listed has a name, nothing has that of an automatic index of a table of this name
+pub automatic_names_are_new : (pages : ℕ) (l : Listed) (rows : List Entry) → AreRowsOf pages l rows → AllByRecursion HasKeyIndexes l.tables → (name : Name) → is_name_of l name ≡ false
+    → AreNewNames l name
+automatic_names_are_new pages l rows tell keys name none number =
+    let free = all_reordered IsFreeTold tell.told (all_told l) tell.all (told_free pages tell.told rows tell.each) in
+    let here = neither (list_any (has_table_name name) l.tables) (list_any (is_view name) l.views) none in
+    ap (λ b. b || list_any (is_view (wanted name number)) l.views) (other_names name number l.tables (all_before IsFreeTold (tables_told l.tables) (map ViewTold l.views) free) keys here.0)
+    ∙ other_views name number l.views (all_after IsFreeTold (tables_told l.tables) (map ViewTold l.views) free)

@@ -6,7 +6,7 @@ use Rattle.tree_page.specs.Cells.{Pairwise}
 use Rattle.tree_table.specs.Tree.{IsTableTree}
 use Rattle.db_layout.specs.Layout.{HoldsUnder, IsTree, Owner}
 use Rattle.catalog.specs.Database.{Database, Name}
-use Rattle.catalog.specs.Listed.{is_table, table_named, shape_of}
+use Rattle.catalog.specs.Listed.{is_table, table_named, shape_of, Listed}
 use Rattle.catalog.specs.declared.tables.Table.{Table}
 use Rattle.row_scan.specs.Rows.{TableRow}
 use Rattle.row_scan.specs.Trees.{HasRows}
@@ -100,11 +100,11 @@ tree_of map size rows t o is tree =
     subst (λ root. IsTableTree map size root is.entries o.used) is.root_is (subst (HoldsUnder map size o.root o.used) is.content_is tree)
 
 -- a table's tree has its rows
-pub has_rows : (map : PageMap) (size : ℕ) (tables : List Table) (db : Database) (held : Stores map size tables db) (name : Name) (t : Table) → table_named name tables ≡ Some t
+pub has_rows : (map : PageMap) (size : ℕ) (l : Listed) (db : Database) (held : Stores map size l db) (name : Name) (t : Table) → table_named name l.tables ≡ Some t
     → HasRows map size t.root (shape_of t) (held.rows_at t.root)
-has_rows map size tables db held name t named =
-    let among = found_among (is_table name) tables t named in
-    let o = table_of_parts held.rows_at tables held.held among.front t among.back among.parts held.each in
+has_rows map size l db held name t named =
+    let among = found_among (is_table name) l.tables t named in
+    let o = table_of_parts held.rows_at l.tables held.held among.front t among.back among.parts held.each in
     let tree = rows_tree (held.rows_at t.root) t o.split.at o.split.is.are in
     let around : all_trees held.held ≡ all_trees o.split.before ++ tree.first ∷ (tree.others ++ all_trees o.split.after) =
     ap all_trees o.split.parts ∙ (trees_around o.split.before o.split.at o.split.after ∙ ap (λ (xs : List Owner). all_trees o.split.before ++ (xs ++ all_trees o.split.after)) tree.parts) in

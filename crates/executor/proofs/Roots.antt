@@ -14,7 +14,7 @@ use Rattle.tree_page.specs.Cells.{Pairwise}
 use Rattle.tree_table.specs.Tree.{IsTableTree, Tree, top, pages_of}
 use Rattle.db_layout.specs.Layout.{AreShared, IsTree, Owner, used_by}
 use Rattle.catalog.specs.Database.{Database, Name}
-use Rattle.catalog.specs.Listed.{is_table, table_named}
+use Rattle.catalog.specs.Listed.{is_table, table_named, Listed}
 use Rattle.catalog.specs.declared.tables.Table.{Table}
 use Rattle.row_scan.specs.Rows.{TableRow}
 use Rattle.db_layout.specs.Trees.{AreTreesOf, IsRowsTree}
@@ -130,8 +130,8 @@ found_is p (y ∷ xs) x e = by_test (p y) refl (found_is p xs x) e
     by_test false is rest e = rest e
 
 -- so a root is that of one name
-pub own_pages : (pages : PageMap) (size : ℕ) (tables : List Table) (db : Database) (held : Stores pages size tables db) (a b : Name) (s t : Table) → table_named a tables ≡ Some s → table_named b tables ≡ Some t
+pub own_pages : (pages : PageMap) (size : ℕ) (l : Listed) (db : Database) (held : Stores pages size l db) (a b : Name) (s t : Table) → table_named a l.tables ≡ Some s → table_named b l.tables ≡ Some t
     → s.root ≡ t.root → folded a ≡ folded b
-own_pages pages size tables db held a b s t h k same =
-    let is = one_table (is_table b) (is_table a) tables t s k h same (roots_once pages size held.rows_at tables (schema_tree held.schema held.schema_used) held.held held.free held.each held.shared t.root) in
-    sym (named_so s a (found_is (is_table a) tables s h)) ∙ (ap (λ (z : Table). folded z.name) (sym is) ∙ named_so t b (found_is (is_table b) tables t k))
+own_pages pages size l db held a b s t h k same =
+    let is = one_table (is_table b) (is_table a) l.tables t s k h same (roots_once pages size held.rows_at l.tables (schema_tree held.schema held.schema_used) held.held held.free held.each held.shared t.root) in
+    sym (named_so s a (found_is (is_table a) l.tables s h)) ∙ (ap (λ (z : Table). folded z.name) (sym is) ∙ named_so t b (found_is (is_table b) l.tables t k))

@@ -1,6 +1,6 @@
 -- The rows of a query whose source's tree is read leaf by leaf.
-use Rattle.std.proofs.Common.{◌≡◌, ◌⊎◌, inl, inr, refl, sym, ap, subst, ◌∙◌, ℕ, ℤ, ◌++◌, Bool, true, List, [], ◌∷◌, map, Option, None, Ok, Err, IsTrue, append_assoc, append-nil, arith}
-use Rattle.std.specs.Prelude.{Result, IsErrAnd, ⊤}
+use Rattle.std.proofs.Common.{◌≡◌, ◌⊎◌, inl, inr, refl, sym, ap, subst, ◌∙◌, ℕ, ℤ, ◌++◌, Bool, true, List, [], ◌∷◌, map, Option, Some, None, Ok, Err, IsTrue, append_assoc, append-nil, arith}
+use Rattle.std.specs.Prelude.{Result, IsErrAnd, ⊤, option_map, slice_get}
 use Rattle.sqlval.specs.Faults.{IsOutside}
 use Rattle.sqlval.specs.Refusals.{Answer, Refusal, ◌then◌, refusal_of}
 use Rattle.sqlval.specs.declared.fault.Fault.{Fault}
@@ -19,17 +19,20 @@ use Rattle.query_names.specs.Views.{answer_of}
 use Rattle.query_names.specs.declared.queries.BoundSource.{BoundSource}
 use Rattle.query_names.specs.declared.reading.Condition.{Condition}
 use Rattle.query_names.specs.declared.reading.Reading.{Reading}
-use Rattle.query_bind.specs.Named.{ArePlaced}
+use Rattle.query_bind.specs.Named.{ArePlaced, place_seen}
 use Rattle.query_answer.specs.Answers.{LoadsBeside, given_rows}
-use Rattle.query_answer.specs.Nesting.{beside_rows}
+use Rattle.query_answer.specs.Nesting.{beside_rows, Named}
 use Rattle.query_answer.specs.Parts.{GiveNone, StayRefused, given_of, is_row_by_row}
 use Rattle.row_scan.specs.Sources.{GivesRows, HoldRows, as_held, as_source}
 use Rattle.row_scan.specs.Trees.{AnswersOrFails, HasRows}
-use Rattle.executor.specs.Reading.{HaveSources, Streams, rows_in}
+use Rattle.executor.specs.Reading.{Streams, answer_within, rows_of_each}
 use Rattle.db_pages.specs.Stored.{Stores}
 use Rattle.executor.proofs.Answering.{Rows, answers}
-use Rattle.executor.proofs.IndexTrees.{have_sources}
-use Rattle.executor.proofs.LoadedSources.{answer_over}
+use Rattle.executor.proofs.IndexTrees.{has_source}
+use Rattle.executor.proofs.LoadedSources.{answer_over, tree_rows}
+use Rattle.catalog.specs.Listed.{Listed, table_named}
+use Rattle.query_names.specs.declared.queries.Origin.{Origin}
+use Rattle.query_names.specs.declared.queries.Origin.TheVariants.{Tree}
 
 -- a query is refused where what it gives is
 refused_over : (q : Reading) (rows : List Row) (r : Refusal) → given_of q rows ≡ Err r → rows_over q [] (beside_rows q.sources (rows ∷ [])) ≡ Err r
@@ -130,18 +133,29 @@ module _ {P K : Type 0} (below : P → K) (tells : K → Bool) (limits : K → L
 
 -- ---- of a database
 
--- the rows of a query with one source
-pub bound_over : {X : Type 0} (view : X → Rows) (law : LoadsBeside) (pages : PageMap) (size : ℕ) (tables : List Table) (db : Database) (stored : Stores pages size tables db) (reading : Reading) (places : List BoundSource)
-    (table : BoundSource) (result : Result X Fault) → places ≡ table ∷ [] → ArePlaced tables reading.sources places
+only_source : (l : Listed) (sources : List Named) (table : BoundSource) → ArePlaced l sources (Tree table ∷ []) → (s : Named) × (sources ≡ s ∷ []) × (option_map place_seen (table_named s.0 l.tables) ≡ Some table)
+only_source l [] table placed = absurd placed
+only_source l (s ∷ []) table placed = (s, refl, placed.0)
+only_source l (s ∷ t ∷ ss) table placed = absurd placed.1
+
+-- the rows of a query with a table as its one source
+pub bound_over : {X : Type 0} (view : X → Rows) (law : LoadsBeside) (pages : PageMap) (size : ℕ) (l : Listed) (room : ℕ) (db : Database) (stored : Stores pages size l db) (reading : Reading) (origins : List Origin)
+    (table : BoundSource) (result : Result X Fault) → origins ≡ Tree table ∷ [] → ArePlaced l reading.sources origins
     → (AreWhole size pages → HasRows pages size table.root table.shape (stored.rows_at table.root) → AnswersOrFails view (rows_over reading [] (beside_rows reading.sources (map as_source (stored.rows_at table.root) ∷ []))) result)
-    → AnswersOrFails view (answer_of db [] reading) result
-bound_over view law pages size tables db stored reading places table result one placed answered =
-    subst (λ (a : Answer Rows). AnswersOrFails view a result) (sym over) (answered stored.shared.whole held)
+    → AnswersOrFails view (answer_within room db reading) result
+bound_over view law pages size l room db stored reading origins table result one placed answered =
+    subst (λ (a : Answer Rows). AnswersOrFails view a result) (sym (answer_over law room db reading (rows ∷ []) each)) (answered stored.shared.whole held)
   where
-    over : answer_of db [] reading ≡ rows_over reading [] (beside_rows reading.sources (map as_source (stored.rows_at table.root) ∷ []))
-    over =
-        answer_over law stored.rows_at tables db reading places stored.of_tables.lists placed
-        ∙ ap (λ (them : List BoundSource). rows_over reading [] (beside_rows reading.sources (rows_in stored.rows_at them))) one
+    rows : List Row
+    rows = map as_source (stored.rows_at table.root)
+
+    only : (s : Named) × (reading.sources ≡ s ∷ []) × (option_map place_seen (table_named s.0 l.tables) ≡ Some table)
+    only = only_source l reading.sources table (subst (ArePlaced l reading.sources) one placed)
+
+    each : rows_of_each room db reading.sources ≡ Ok (rows ∷ [])
+    each =
+        ap (rows_of_each room db) only.1
+        ∙ ap (λ (a : Answer (List Row)). a then λ x. Ok (x ∷ [])) (tree_rows room stored.rows_at l db only.0.0 table stored.of_listed.lists only.2)
 
     held : HasRows pages size table.root table.shape (stored.rows_at table.root)
-    held = (subst (HaveSources pages size tables reading.sources stored.rows_at 0) one (have_sources pages size tables db stored reading.sources places placed)).0.has
+    held = (has_source pages size l db stored reading.sources 0 only.0 table (ap (λ (them : List Named). slice_get them 0) only.1) only.2).has

@@ -1,14 +1,14 @@
--- Rows that tell tables and indexes go on to tell them: with more pages, with one row more, and with one less.
+-- Rows that tell what is listed go on to tell it: with more pages, with one row more, and with one less.
 use Rattle.std.proofs.Common.{◌≡◌, ◌≤◌, inl, inr, refl, sym, ap, subst, ◌∙◌, ℕ, ℤ, true, false, codes, cond, map, List, [], ◌∷◌, ◌++◌, append_assoc, Option, Some, None, arith}
 use Rattle.std.specs.List.{AllByRecursion}
 use Rattle.std.specs.Ordering.{eq_by_cmp, int_cmp, int_eq}
-use Rattle.std.specs.Prelude.{⊤}
+use Rattle.std.specs.Prelude.{⊤, flat_map}
 use Rattle.sqlval.specs.Names.{folded}
 use Rattle.tree_leaf.specs.Leaf.{Entry}
 use Rattle.tree_page.specs.Cells.{Pairwise}
 use Rattle.tree_table.specs.Rows.{payload_at, with_row, without_row}
 use Rattle.sql_syntax.specs.declared.create.TableDefinition.{TableDefinition}
-use Rattle.catalog.specs.Listed.{is_table, rowids_in, rowids_of}
+use Rattle.catalog.specs.Listed.{is_table, rowids_in, rowids_of, Listed}
 use Rattle.catalog.specs.UnusedRowids.{is_among}
 use Rattle.catalog.specs.declared.tables.Index.{Index}
 use Rattle.catalog.specs.declared.tables.Table.{Table}
@@ -16,12 +16,13 @@ use Rattle.query_names.specs.Bound.{AreOnce, is_twice_named}
 use Rattle.query_names.specs.Creating.{HasColumnsOf, has_doubled}
 use Rattle.query_names.proofs.CreatedTables.{keeps_once}
 use Rattle.db_pages.specs.Reordering.{AreReordered}
-use Rattle.db_pages.specs.Schema.{AreRowsOf, HasRowOf, IndexTold, TableTold, Tells, Told, all_told, told_by}
+use Rattle.db_pages.specs.Schema.{AreRowsOf, HasRowOf, IndexTold, TableTold, Tells, Told, all_told, told_by, ViewTold, tables_told}
 use Rattle.db_pages.proofs.Reordering.{all_reordered, is_reordered, reordered_between, reordered_map, reordered_sym, reordered_without}
 use Rattle.executor.specs.Listing.{AreThere, without_rows}
 use Rattle.executor.proofs.FoundTables.{neither, same_bytes}
 use Rattle.executor.proofs.Owners.{found_among, joins, one_of, splits}
 use Rattle.executor.proofs.SchemaRows.{AreDistinct, distinct_before, distinct_left, goes_between, there_at, without_at}
+use Rattle.catalog.specs.declared.tables.View.{View}
 
 -- the rows tell these items, in whatever order
 pub record AreToldBy (pages : ℕ) (items : List Told) (rows : List Entry) : Type 0 where
@@ -29,11 +30,11 @@ pub record AreToldBy (pages : ℕ) (items : List Told) (rows : List Entry) : Typ
   pub all : AreReordered told items
   pub each : Pairwise (Tells pages) told rows
 
-pub as_told : (pages : ℕ) (tables : List Table) (rows : List Entry) → AreRowsOf pages tables rows → AreToldBy pages (all_told tables) rows
-as_told pages tables rows tell = record { told = tell.told; all = tell.all; each = tell.each }
+pub as_told : (pages : ℕ) (l : Listed) (rows : List Entry) → AreRowsOf pages l rows → AreToldBy pages (all_told l) rows
+as_told pages l rows tell = record { told = tell.told; all = tell.all; each = tell.each }
 
-pub as_rows : (pages : ℕ) (tables : List Table) (items : List Told) (rows : List Entry) → all_told tables ≡ items → AreToldBy pages items rows → AreRowsOf pages tables rows
-as_rows pages tables items rows are tell = record { told = tell.told; all = subst (AreReordered tell.told) (sym are) tell.all; each = tell.each }
+pub as_rows : (pages : ℕ) (l : Listed) (items : List Told) (rows : List Entry) → all_told l ≡ items → AreToldBy pages items rows → AreRowsOf pages l rows
+as_rows pages l items rows are tell = record { told = tell.told; all = subst (AreReordered tell.told) (sym are) tell.all; each = tell.each }
 
 pub told_as : (pages : ℕ) (items others : List Told) (rows : List Entry) → items ≡ others → AreToldBy pages items rows → AreToldBy pages others rows
 told_as pages items others rows same tell = subst (λ (xs : List Told). AreToldBy pages xs rows) same tell
@@ -73,6 +74,7 @@ tells_with_more n m le (IndexTold t i) row (inr is) = inr (record {
   rowid_is = is.rowid_is;
   row_is = row_with_more n m le (codes "index") i.name t.name i.root None row is.row_is;
 })
+tells_with_more n m le (ViewTold v) row is = is
 
 each_tells : (P Q : Told → Entry → Type 0) → ((item : Told) (row : Entry) → P item row → Q item row) → (items : List Told) (rows : List Entry) → Pairwise P items rows → Pairwise Q items rows
 each_tells P Q so [] [] each = tt
@@ -135,11 +137,13 @@ one_more pages c d item row rows tell none tells =
 abbrev pub rowid_told : Told → ℤ
 rowid_told (TableTold t) = t.rowid
 rowid_told (IndexTold t i) = i.rowid
+rowid_told (ViewTold v) = v.rowid
 
 pub at_rowid : (pages : ℕ) (item : Told) (row : Entry) → Tells pages item row → row.rowid ≡ rowid_told item
 at_rowid pages (TableTold t) row tells = tells.rowid_is
 at_rowid pages (IndexTold t i) row (inl tells) = tells.rowid_is
 at_rowid pages (IndexTold t i) row (inr tells) = tells.rowid_is
+at_rowid pages (ViewTold v) row tells = tells.rowid_is
 
 -- the row of an item is there, and without it the others are told
 pub record IsLess (pages : ℕ) (items : List Told) (rowid : ℤ) (rows : List Entry) : Type 0 where
@@ -193,9 +197,18 @@ map_both : {A B : Type 0} (f : A → B) (xs ys : List A) → map f (xs ++ ys) �
 map_both f [] ys = refl
 map_both f (x ∷ xs) ys = ap (λ zs. f x ∷ zs) (map_both f xs ys)
 
-all_rowids : (tables : List Table) → map rowid_told (all_told tables) ≡ rowids_of tables
-all_rowids [] = refl
-all_rowids (t ∷ ts) = map_both rowid_told (told_by t) (all_told ts) ∙ (ap (λ zs. zs ++ map rowid_told (all_told ts)) (told_rowids t) ∙ ap (λ zs. rowids_in t ++ zs) (all_rowids ts))
+table_rowids : (tables : List Table) → map rowid_told (tables_told tables) ≡ flat_map rowids_in tables
+table_rowids [] = refl
+table_rowids (t ∷ ts) = map_both rowid_told (told_by t) (tables_told ts) ∙ (ap (λ zs. zs ++ map rowid_told (tables_told ts)) (told_rowids t) ∙ ap (λ zs. rowids_in t ++ zs) (table_rowids ts))
+
+view_rowids : (views : List View) → map rowid_told (map ViewTold views) ≡ map (λ (v : View). v.rowid) views
+view_rowids [] = refl
+view_rowids (v ∷ vs) = ap (λ zs. v.rowid ∷ zs) (view_rowids vs)
+
+all_rowids : (l : Listed) → map rowid_told (all_told l) ≡ rowids_of l
+all_rowids l =
+    map_both rowid_told (tables_told l.tables) (map ViewTold l.views)
+    ∙ (ap (λ zs. zs ++ map rowid_told (map ViewTold l.views)) (table_rowids l.tables) ∙ ap (λ zs. flat_map rowids_in l.tables ++ zs) (view_rowids l.views))
 
 -- a rowid that none of the items has
 not_among : (rowid : ℤ) (items : List Told) → is_among rowid (map rowid_told items) ≡ false → AllByRecursion (λ item. int_eq (rowid_told item) rowid ≡ false) items
@@ -211,12 +224,12 @@ none_at pages rowid (item ∷ items) (row ∷ rows) each other =
     ap (λ b. cond b (Some row.payload) (payload_at rowid rows)) (subst (λ z. int_eq z rowid ≡ false) (sym (at_rowid pages item row each.0)) other.0)
     ∙ none_at pages rowid items rows each.1 other.1
 
--- no row has a rowid that none of the tables and indexes has
-pub free_at : (pages : ℕ) (tables : List Table) (rows : List Entry) (rowid : ℤ) → AreRowsOf pages tables rows → is_among rowid (rowids_of tables) ≡ false → payload_at rowid rows ≡ None
-free_at pages tables rows rowid tell none =
+-- no row has a rowid that nothing listed has
+pub free_at : (pages : ℕ) (l : Listed) (rows : List Entry) (rowid : ℤ) → AreRowsOf pages l rows → is_among rowid (rowids_of l) ≡ false → payload_at rowid rows ≡ None
+free_at pages l rows rowid tell none =
     none_at pages rowid tell.told rows tell.each
-    (all_reordered (λ item. int_eq (rowid_told item) rowid ≡ false) (all_told tables) tell.told (reordered_sym tell.told (all_told tables) tell.all)
-    (not_among rowid (all_told tables) (subst (λ (xs : List ℤ). is_among rowid xs ≡ false) (sym (all_rowids tables)) none)))
+    (all_reordered (λ item. int_eq (rowid_told item) rowid ≡ false) (all_told l) tell.told (reordered_sym tell.told (all_told l) tell.all)
+    (not_among rowid (all_told l) (subst (λ (xs : List ℤ). is_among rowid xs ≡ false) (sym (all_rowids l)) none)))
 
 -- ---- columns
 
@@ -224,6 +237,7 @@ free_at pages tables rows rowid tell none =
 abbrev IsOnce : Told → Type 0
 IsOnce (TableTold t) = is_twice_named t.columns ≡ false
 IsOnce (IndexTold t i) = ⊤
+IsOnce (ViewTold v) = ⊤
 
 own_name : (t : Table) → is_table t.name t ≡ true
 own_name t = same_bytes (folded t.name)
@@ -236,20 +250,25 @@ told_once pages [] rows each = tt
 told_once pages (item ∷ items) [] each = absurd each
 told_once pages (TableTold t ∷ items) (row ∷ rows) each = (once_alone each.0.definition t each.0.makes.once each.0.makes.columns, told_once pages items rows each.1)
 told_once pages (IndexTold t i ∷ items) (row ∷ rows) each = (tt, told_once pages items rows each.1)
+told_once pages (ViewTold v ∷ items) (row ∷ rows) each = (tt, told_once pages items rows each.1)
 
 pub all_after : {A : Type 0} (P : A → Type 0) (xs ys : List A) → AllByRecursion P (xs ++ ys) → AllByRecursion P ys
 all_after P [] ys all = all
 all_after P (x ∷ xs) ys all = all_after P xs ys all.1
 
-tables_once : (tables : List Table) → AllByRecursion IsOnce (all_told tables) → AllByRecursion (λ (t : Table). is_twice_named t.columns ≡ false) tables
+all_before : {A : Type 0} (P : A → Type 0) (xs ys : List A) → AllByRecursion P (xs ++ ys) → AllByRecursion P xs
+all_before P [] ys all = tt
+all_before P (x ∷ xs) ys all = (all.0, all_before P xs ys all.1)
+
+tables_once : (tables : List Table) → AllByRecursion IsOnce (tables_told tables) → AllByRecursion (λ (t : Table). is_twice_named t.columns ≡ false) tables
 tables_once [] all = tt
-tables_once (t ∷ ts) all = (all.0, tables_once ts (all_after IsOnce (told_by t) (all_told ts) all))
+tables_once (t ∷ ts) all = (all.0, tables_once ts (all_after IsOnce (told_by t) (tables_told ts) all))
 
 -- tables that rows tell have no two columns of one name
-pub once_told : (pages : ℕ) (tables : List Table) (rows : List Entry) → AreRowsOf pages tables rows → AreOnce tables
-once_told pages tables rows tell name t named =
-    let a = found_among (is_table name) tables t named in
-    let all : AllByRecursion (λ (t : Table). is_twice_named t.columns ≡ false) tables = tables_once tables (all_reordered IsOnce tell.told (all_told tables) tell.all (told_once pages tell.told rows tell.each)) in
+pub once_told : (pages : ℕ) (l : Listed) (rows : List Entry) → AreRowsOf pages l rows → AreOnce l.tables
+once_told pages l rows tell name t named =
+    let a = found_among (is_table name) l.tables t named in
+    let all : AllByRecursion (λ (t : Table). is_twice_named t.columns ≡ false) l.tables = tables_once l.tables (all_before IsOnce (tables_told l.tables) (map ViewTold l.views) (all_reordered IsOnce tell.told (all_told l) tell.all (told_once pages tell.told rows tell.each))) in
     one_of (λ (t : Table). is_twice_named t.columns ≡ false) a.front t a.back (subst (AllByRecursion (λ (t : Table). is_twice_named t.columns ≡ false)) a.parts all)
 
 -- ---- other items in place of some
@@ -315,12 +334,20 @@ same_indexes pages t others (i ∷ is) = (λ row. same_row row, same_indexes pag
 
 -- ---- all that tables tell
 
-pub told_append : (xs ys : List Table) → all_told (xs ++ ys) ≡ all_told xs ++ all_told ys
+pub told_append : (xs ys : List Table) → tables_told (xs ++ ys) ≡ tables_told xs ++ tables_told ys
 told_append [] ys = refl
-told_append (x ∷ xs) ys = ap (λ zs. told_by x ++ zs) (told_append xs ys) ∙ sym (append_assoc (told_by x) (all_told xs) (all_told ys))
+told_append (x ∷ xs) ys = ap (λ zs. told_by x ++ zs) (told_append xs ys) ∙ sym (append_assoc (told_by x) (tables_told xs) (tables_told ys))
 
-pub told_around : (front : List Table) (t : Table) (back : List Table) → all_told (front ++ t ∷ back) ≡ all_told front ++ (told_by t ++ all_told back)
-told_around front t back = told_append front (t ∷ back)
+-- what stands after what these tables tell, where those come next, and then views
+abbrev pub told_after : List Table → List View → List Told
+told_after back views = tables_told back ++ map ViewTold views
+
+pub told_joined : (front back : List Table) (views : List View) → all_told (record { tables = front ++ back; views = views }) ≡ tables_told front ++ told_after back views
+told_joined front back views = ap (λ zs. zs ++ map ViewTold views) (told_append front back) ∙ append_assoc (tables_told front) (tables_told back) (map ViewTold views)
+
+pub told_around : (front : List Table) (t : Table) (back : List Table) (views : List View)
+    → all_told (record { tables = front ++ t ∷ back; views = views }) ≡ tables_told front ++ (told_by t ++ told_after back views)
+told_around front t back views = told_joined front (t ∷ back) views ∙ ap (λ zs. tables_told front ++ zs) (append_assoc (told_by t) (tables_told back) (map ViewTold views))
 
 pub map_append : {A B : Type 0} (f : A → B) (xs ys : List A) → map f (xs ++ ys) ≡ map f xs ++ map f ys
 map_append f xs ys = map_both f xs ys

@@ -14,9 +14,9 @@ use Rattle.sql_syntax.specs.declared.statement.Statement.TheVariants as statemen
 use Rattle.pages.specs.Map.{PageMap}
 use Rattle.db_layout.specs.Trees.{AreAmong}
 use Rattle.catalog.specs.Database.{ATable, Database, Name, with_object}
-use Rattle.catalog.specs.Laws.{KeepsOnlyPlain, ListsOtherRows}
-use Rattle.catalog.specs.Listed.{Lists, is_table, table_named, with_rows}
-use Rattle.catalog.specs.Named.{IsOfTables, KeepsNamed, ListsIndexes}
+use Rattle.catalog.specs.Laws.{KeepsNoTrigger, ListsOtherRows}
+use Rattle.catalog.specs.Listed.{Lists, is_table, table_named, with_rows, Listed}
+use Rattle.catalog.specs.Named.{IsOfListed, KeepsNamed, ListsIndexes}
 use Rattle.catalog.specs.declared.tables.Column.{Column}
 use Rattle.catalog.specs.declared.tables.Table.{Table}
 use Rattle.query_names.specs.Bound.{IsFaultOf, looked_up, source_seen}
@@ -27,7 +27,6 @@ use Rattle.query_names.specs.Queries.{resolve_filter}
 use Rattle.query_names.specs.Scopes.{beside, resolve_places, source_of}
 use Rattle.query_names.specs.declared.scope.ScopeColumn.{ScopeColumn}
 use Rattle.query_names.specs.declared.scope.ScopeSource.{ScopeSource}
-use Rattle.query_names.proofs.KnownTables.{known_listed}
 use Rattle.query_terms.specs.Terms.{Term}
 use Rattle.row_scan.specs.Rows.{TableRow}
 use Rattle.query_bind.specs.Assigned.{columns_set, set_known, sets_known}
@@ -51,11 +50,13 @@ use Rattle.executor.proofs.Roots.{own_pages}
 use Rattle.executor.proofs.FoundTables.{indexes_listed}
 use Rattle.executor.proofs.Replacing.{found_is, same_folded}
 use Rattle.executor.proofs.Wide.{indexes_of_table, wide_in}
+use Rattle.executor.proofs.KnownSources.{known_as}
+use Rattle.executor.specs.Refusing.{is_view_named}
 
 -- what follows for every listed database, and for the trees of its file
 pub record Laws : Type 0 where
   pub lists : ListsOtherRows
-  pub tables : KeepsOnlyPlain
+  pub quiet : KeepsNoTrigger
   pub named : KeepsNamed
   pub binds : BindsAlone
   pub updates : UpdateSetsRows
@@ -112,20 +113,20 @@ first_fault r (Meant x rs) = (0, omega arith, refl)
 no_faults : (k : Checked Resolved) → also [] k ≡ k
 no_faults (Meant x rs) = refl
 
-module _ (laws : Laws) (pages : PageMap) (size : ℕ) (tables : List Table) (db : Database) (held : Stores pages size tables db) (u : Update) where
-  resolved : (found : Option Table) → table_named u.table tables ≡ found → resolve_change db no_outer (kind.Update u) ≡ resolved_by u (looked_up found)
-  resolved found named = ap (resolved_by u) (known_listed held.rows_at tables db held.of_tables.lists u.table ∙ ap looked_up named)
+module _ (laws : Laws) (pages : PageMap) (size : ℕ) (l : Listed) (db : Database) (held : Stores pages size l db) (u : Update) (plain : is_view_named l u.table ≡ false) where
+  resolved : (found : Option Table) → table_named u.table l.tables ≡ found → resolve_change db no_outer (kind.Update u) ≡ resolved_by u (looked_up found)
+  resolved found named = ap (resolved_by u) (known_as held.rows_at l db held.of_listed.lists u.table plain ∙ ap looked_up named)
 
   refused_so : (f : Fault) → Contains (faults (resolve_change db no_outer (kind.Update u))) (refusal_of f) → IsChangeRefusal (updating u) db f
-  refused_so f has = inr (inl (inl ((laws.binds db (kind.Update u) (refusal_of f) held.of_tables.only).1 has)))
+  refused_so f has = inr (inl (inl ((laws.binds db (kind.Update u) (refusal_of f) held.of_listed.quiet).1 has)))
 
   -- a name that no table has
-  pub name_refused : (f : Fault) → (f ≡ fault.Memory) ⊎ (refusal_of f ≡ NoSuch) × (table_named u.table tables ≡ None) → IsChangeRefusal (updating u) db f
+  pub name_refused : (f : Fault) → (f ≡ fault.Memory) ⊎ (refusal_of f ≡ NoSuch) × (table_named u.table l.tables ≡ None) → IsChangeRefusal (updating u) db f
   name_refused f (inl memory) = inl (inl (inl memory))
   name_refused f (inr (is, none)) =
       refused_so f (subst (λ (k : Checked Resolved). Contains (faults k) (refusal_of f)) (sym (resolved None none)) (subst (Contains (faults (resolved_by u (looked_up None)))) (sym is) (first_fault NoSuch _)))
 
-  module _ (t : Table) (named : table_named u.table tables ≡ Some t) where
+  module _ (t : Table) (named : table_named u.table l.tables ≡ Some t) where
     abbrev scope : List ScopeSource
     scope = source_seen u.table t ∷ []
 
@@ -181,11 +182,11 @@ module _ (laws : Laws) (pages : PageMap) (size : ℕ) (tables : List Table) (db 
       bound : resolve_change db no_outer (kind.Update u) ≡ Meant (Updates (folded u.table) sets (named_sets u) condition) []
       bound = parts ∙ (ap (λ (k : Checked (List (ℕ × Term))). both (as_updates u) k condition_of) sets_known_so ∙ ap (both (as_updates u) (Meant sets [])) known)
 
-      owned : HasTable held.rows_at tables held.held t
-      owned = held_table pages size tables db held u.table t named
+      owned : HasTable held.rows_at l.tables held.held t
+      owned = held_table pages size l db held u.table t named
 
       not_refused : (r : Refusal) → IsFault db (kind.Update u) r → ⊥
-      not_refused r is = nothing (subst (λ (k : Checked Resolved). Contains (faults k) r) bound ((laws.binds db (kind.Update u) r held.of_tables.only).0 is))
+      not_refused r is = nothing (subst (λ (k : Checked Resolved). Contains (faults k) r) bound ((laws.binds db (kind.Update u) r held.of_listed.quiet).0 is))
         where
           nothing : Contains [] r → ⊥
           nothing has = absurd (omega (arith, has.1))
@@ -200,45 +201,45 @@ module _ (laws : Laws) (pages : PageMap) (size : ℕ) (tables : List Table) (db 
       refuses : (f : Fault) → change db (kind.Update u) ≡ Err (refusal_of f) → IsChangeRefusal (updating u) db f
       refuses f e = inr (inl (inr (not_refused, subst (λ (a : Answer Database). RefusesWith (of_answer a) (refusal_of f)) (sym e) (as_refused f))))
 
-      lists_now : (now : List TableRow) → Lists (rows_with held.rows_at t.root now) tables (with_now now)
+      lists_now : (now : List TableRow) → Lists (rows_with held.rows_at t.root now) l (with_now now)
       lists_now now =
-          laws.lists held.rows_at tables db (folded u.table) t now held.of_tables.lists (named_folded tables u.table t named)
-          (λ other x found here. own_pages pages size tables db held other (folded u.table) x t found (named_folded tables u.table t named) here)
+          laws.lists held.rows_at l db (folded u.table) t now held.of_listed.lists (named_folded l.tables u.table t named)
+          (λ other x found here. own_pages pages size l db held other (folded u.table) x t found (named_folded l.tables u.table t named) here)
 
-      of_tables : (now : List TableRow) → IsOfTables (rows_with held.rows_at t.root now) tables (with_now now)
-      of_tables now = record {
+      of_listed : (now : List TableRow) → IsOfListed (rows_with held.rows_at t.root now) l (with_now now)
+      of_listed now = record {
         lists = lists_now now;
-        only = laws.tables db (folded u.table) (ATable (with_rows t now)) held.of_tables.only refl;
-        named = laws.named db (folded u.table) (ATable (with_rows t now)) held.of_tables.named;
-        once = held.of_tables.once;
+        quiet = laws.quiet db (folded u.table) (ATable (with_rows t now)) held.of_listed.quiet refl;
+        named = laws.named db (folded u.table) (ATable (with_rows t now)) held.of_listed.named;
+        once = held.of_listed.once;
       }
 
-      abbrev trees : HoldsTrees pages size held.rows_at tables held.schema
-      trees = trees_held pages size tables db held
+      abbrev trees : HoldsTrees pages size held.rows_at l.tables held.schema
+      trees = trees_held pages size l db held
 
       its_trees : AreAmong pages size (schema_tree held.schema held.schema_used) (all_trees owned.split.before) t (held.rows_at t.root) (all_trees owned.split.after)
-      its_trees = among pages size held.rows_at tables held.schema trees t owned
+      its_trees = among pages size held.rows_at l.tables held.schema trees t owned
 
       change_is : (a : Answer (List TableRow)) → rows_set t sets condition (held.rows_at t.root) ≡ a → change db (kind.Update u) ≡ (a then λ now. Ok (with_now now))
       change_is a e =
-          laws.updates db u t (held.rows_at t.root) sets (named_sets u) condition held.of_tables.only held.of_tables.named (indexes_of_table laws.indexes held.rows_at tables db u.table t held.of_tables named) (listed_table held.rows_at tables db u.table t held.of_tables.lists named) owned.split.is.fit bound
+          laws.updates db u t (held.rows_at t.root) sets (named_sets u) condition held.of_listed.quiet held.of_listed.named (indexes_of_table laws.indexes held.rows_at l db u.table t held.of_listed named) (listed_table held.rows_at l db u.table t held.of_listed.lists named) owned.split.is.fit bound
           ∙ ap (λ (x : Answer (List TableRow)). x then λ now. Ok (with_now now)) e
 
       -- what the call that sets the rows comes to
       pub set_makes : (new : PageMap) (result : Result ⊤ Fault) → UpdatesInTrees pages new size t condition sets result
-          → MatchResult result (λ done. IsMade (updating u) db new size tables) (IsChangeRefusal (updating u) db)
+          → MatchResult result (λ done. IsMade (updating u) db new size l) (IsChangeRefusal (updating u) db)
       set_makes new (Ok done) set_so =
-          let set = set_so (schema_tree held.schema held.schema_used) (all_trees owned.split.before) (all_trees owned.split.after) (held.rows_at t.root) (page_size pages size held.rows_at tables held.schema trees) refl its_trees owned.split.is.fit in
+          let set = set_so (schema_tree held.schema held.schema_used) (all_trees owned.split.before) (all_trees owned.split.after) (held.rows_at t.root) (page_size pages size held.rows_at l.tables held.schema trees) refl its_trees owned.split.is.fit in
           record {
             made = with_now set.now;
             reaches = reaches (with_now set.now) (change_is (Ok set.now) set.answer);
-            stored = stores_rows pages new size tables db (with_now set.now) held t set.now owned set.hold (of_tables set.now);
+            stored = stores_rows pages new size l db (with_now set.now) held t set.now owned set.hold (of_listed set.now);
           }
       set_makes new (Err f) set_so =
-          by (set_so (schema_tree held.schema held.schema_used) (all_trees owned.split.before) (all_trees owned.split.after) (held.rows_at t.root) (page_size pages size held.rows_at tables held.schema trees) refl its_trees owned.split.is.fit)
+          by (set_so (schema_tree held.schema held.schema_used) (all_trees owned.split.before) (all_trees owned.split.after) (held.rows_at t.root) (page_size pages size held.rows_at l.tables held.schema trees) refl its_trees owned.split.is.fit)
         where
           by : IsRefusedUpdate t condition sets (held.rows_at t.root) f → IsChangeRefusal (updating u) db f
           by (inl outside) = inl outside
           by (inr (inl e)) = refuses f (change_is (Err (refusal_of f)) e)
           by (inr (inr (what, wide))) =
-              inr (inr (record { is = what; why = inl (wide_in db t u.table (same_folded t.name u.table (found_is (is_table u.table) tables t named)) (indexes_listed held.rows_at tables db held.of_tables owned.front t owned.back owned.tables_are) wide) }))
+              inr (inr (record { is = what; why = inl (wide_in db t u.table (same_folded t.name u.table (found_is (is_table u.table) l.tables t named)) (indexes_listed held.rows_at l db held.of_listed owned.front t owned.back owned.tables_are) wide) }))

@@ -4,8 +4,8 @@ use Rattle.std.proofs.lemmas.List.{length-map}
 use Rattle.std.specs.List.{AllByRecursion, list_any}
 use Rattle.sqlval.specs.Names.{folded}
 use Rattle.catalog.specs.Database.{Database, Name}
-use Rattle.catalog.specs.Listed.{as_index, table_named}
-use Rattle.catalog.specs.Named.{IsOfTables, ListsIndexes}
+use Rattle.catalog.specs.Listed.{Listed, as_index, table_named}
+use Rattle.catalog.specs.Named.{IsOfListed, ListsIndexes}
 use Rattle.catalog.specs.declared.tables.Index.{Index}
 use Rattle.catalog.specs.declared.tables.IndexColumn.{IndexColumn}
 use Rattle.catalog.specs.declared.tables.Table.{Table}
@@ -34,8 +34,8 @@ wide_in db t name same each wide = by t.indexes each wide
         by_first false first rest = rest (either (is_wide (length i.columns)) (list_any (λ j. is_wide (length j.columns)) is) wide first)
 
 -- the database has the indexes that are listed with a table
-pub indexes_of_table : ListsIndexes → (rows_at : ℕ → List TableRow) (tables : List Table) (db : Database) (name : Name) (t : Table) → IsOfTables rows_at tables db → table_named name tables ≡ Some t → HasIndexesOf db (folded name) t
-indexes_of_table lists rows_at tables db name t of_tables named test = lists rows_at tables db (folded name) t test of_tables (named_as tables (folded name) name (folded_twice name) ∙ named)
+pub indexes_of_table : ListsIndexes → (rows_at : ℕ → List TableRow) (l : Listed) (db : Database) (name : Name) (t : Table) → IsOfListed rows_at l db → table_named name l.tables ≡ Some t → HasIndexesOf db (folded name) t
+indexes_of_table lists rows_at l db name t of_listed named test = lists rows_at l db (folded name) t test of_listed (named_as l.tables (folded name) name (folded_twice name) ∙ named)
 
 -- as many things are known as are meant
 pub known_long : {A : Type 0} (ks : List (Checked A)) → length (meant (known_all ks)) ≡ length ks

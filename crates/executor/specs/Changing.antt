@@ -16,7 +16,7 @@ use Rattle.pages.specs.Calls.{IsOutsideOrFull}
 use Rattle.pages.specs.Map.{PageMap}
 use Rattle.catalog.specs.Database as database
 use Rattle.catalog.specs.Database.{AnIndex, Database, Name, object}
-use Rattle.catalog.specs.Listed.{as_index}
+use Rattle.catalog.specs.Listed.{Listed, as_index}
 use Rattle.catalog.specs.declared.tables.Index.{Index}
 use Rattle.catalog.specs.declared.tables.Table.{Table}
 use Rattle.query_names.specs.Schema.{automatic_name}
@@ -26,11 +26,11 @@ use Rattle.db_pages.specs.Schema.{schema_row}
 use Rattle.db_pages.specs.Stored.{Stores}
 use Rattle.executor.specs.Works.{Reaches, RefusesWith, change_made}
 
--- the pages hold a database that the statement makes of this one, with these tables
-pub record IsMade (s : Statement) (db : Database) (new : PageMap) (size : ℕ) (tables : List Table) : Type 0 where
+-- the pages hold a database that the statement makes of this one, of which this is listed
+pub record IsMade (s : Statement) (db : Database) (new : PageMap) (size : ℕ) (l : Listed) : Type 0 where
   pub made : Database
   pub reaches : Reaches (change_made s db) made
-  pub stored : Stores new size tables made
+  pub stored : Stores new size l made
 
 -- ---- what can't be stored
 
@@ -67,6 +67,7 @@ MakesLongText sql (new.Table d) = (root : ℕ) × ((AreStorable (schema_row (cod
     ⊎ ((number : ℕ) × (AreStorable (schema_row (codes "index") (automatic_name d.name number) d.name root None) → ⊥)))
 MakesLongText sql (new.Index d) =
     (table : Name) × (root : ℕ) × (folded table ≡ folded d.table) × (AreStorable (schema_row (codes "index") d.name table root (Some sql)) → ⊥)
+MakesLongText sql (new.View d) = AreStorable (schema_row (codes "view") d.name d.name 0 (Some sql)) → ⊥
 MakesLongText sql _ = ⊥
 
 -- no record can hold a row of the schema table for what the statement creates
@@ -89,8 +90,8 @@ pub record IsTooMuch (s : Statement) (db : Database) (f : Fault) : Type 0 where
 abbrev pub IsChangeRefusal : Statement → Database → Fault → Type 0
 IsChangeRefusal s db f = IsOutsideOrFull f ⊎ (RefusesWith (change_made s db) (refusal_of f) ⊎ IsTooMuch s db f)
 
--- What a statement's change comes to, where the pages hold a database of these tables. `tables_by` says which tables there are after a call
+-- What a statement's change comes to, where the pages hold a database of which this is listed. `listed_by` says what is listed after a call
 -- that answered.
-abbrev pub MakesChange : {X : Type 0} → (X → List Table) → Statement → PageMap → PageMap → ℕ → List Table → Result X Fault → Type 0
-MakesChange tables_by s old new size before result = (db : Database) → Stores old size before db
-    → MatchResult result (λ x. IsMade s db new size (tables_by x)) (IsChangeRefusal s db)
+abbrev pub MakesChange : {X : Type 0} → (X → Listed) → Statement → PageMap → PageMap → ℕ → Listed → Result X Fault → Type 0
+MakesChange listed_by s old new size before result = (db : Database) → Stores old size before db
+    → MatchResult result (λ x. IsMade s db new size (listed_by x)) (IsChangeRefusal s db)

@@ -32,6 +32,7 @@ answers_rows _ = false
 abbrev makes_pages : NewObject → Bool
 makes_pages (new.Table d) = true
 makes_pages (new.Index d) = true
+makes_pages (new.View d) = true
 makes_pages _ = false
 
 abbrev changes_rows : Change → Bool
@@ -39,7 +40,7 @@ changes_rows (change.Insert i) = true
 changes_rows (change.Delete d) = true
 changes_rows (change.Update u) = true
 
--- it makes a table or an index, drops an object, or inserts, deletes or updates rows
+-- it makes a table, an index or a view, drops an object, or inserts, deletes or updates rows
 abbrev pub is_write : Statement → Bool
 is_write (statement.Create c) = makes_pages c.object
 is_write (statement.Drop kind name) = true

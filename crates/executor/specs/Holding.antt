@@ -1,4 +1,4 @@
--- Pages that hold listed tables and their indexes, whether or not each key of a table has its index: so they are while a CREATE TABLE makes
+-- Pages that hold listed tables with their indexes, whether or not each key of a table has its index: so they are while a CREATE TABLE makes
 -- these (Database File Format, "The Database File").
 use Rattle.std.specs.Prelude.{◌≡◌, ◌⊎◌, ℕ, ℤ, pos, true, false, List, [], ◌∷◌, Option, Some, None, length, codes, map, take, Result, MatchResult}
 use Rattle.std.specs.List.{AllByRecursion, list_any}
@@ -15,9 +15,9 @@ use Rattle.pages.specs.Map.{PageMap, page_at}
 use Rattle.tree_page.specs.Cells.{Pairwise}
 use Rattle.db_layout.specs.Layout.{AreShared, Owner}
 use Rattle.catalog.specs.Database.{ATable, AnIndex, Database, Name, object, with_object}
-use Rattle.catalog.specs.Listed.{as_index, is_name_of, table_named, tables_of, with_replaced, with_rows}
-use Rattle.catalog.specs.Named.{IsOfTables}
-use Rattle.catalog.specs.NewIndexes.{with_index}
+use Rattle.catalog.specs.Listed.{Listed, as_index, is_name_of, listed_in, table_named, with_rows}
+use Rattle.catalog.specs.Named.{IsOfListed}
+use Rattle.catalog.specs.NewIndexes.{replacing, with_index}
 use Rattle.catalog.specs.declared.tables.Catalog.{Catalog}
 use Rattle.catalog.specs.declared.tables.Index.{Index}
 use Rattle.catalog.specs.declared.tables.IndexColumn.{IndexColumn}
@@ -41,13 +41,13 @@ pub record HoldsTrees (map : PageMap) (size : ℕ) (rows_at : ℕ → List Table
   pub each : Pairwise (AreHeld rows_at) tables held
   pub shared : AreShared map size (schema_tree schema schema_used ∷ all_trees held) free
 
--- The pages hold these tables and their indexes, which the rows of the schema table tell.
-pub record HoldsListed (map : PageMap) (size : ℕ) (tables : List Table) (db : Database) : Type 0 where
+-- The pages hold what is listed, which the rows of the schema table tell.
+pub record HoldsListed (map : PageMap) (size : ℕ) (l : Listed) (db : Database) : Type 0 where
   pub rows_at : ℕ → List TableRow
-  pub of_tables : IsOfTables rows_at tables db
+  pub of_listed : IsOfListed rows_at l db
   pub schema : List Entry
-  pub tell : AreRowsOf (length map) tables schema
-  pub trees : HoldsTrees map size rows_at tables schema
+  pub tell : AreRowsOf (length map) l schema
+  pub trees : HoldsTrees map size rows_at l.tables schema
 
 -- What a row of the schema table is to say of an index: the CREATE INDEX that makes it, or that it is an automatic one, in letters of either case.
 abbrev pub IsToldBy : Table → Index → Name → Option (List ℕ) → Type 0
@@ -55,11 +55,11 @@ IsToldBy table index name None = (index.is_automatic ≡ true) × (folded name �
 IsToldBy table index name (Some sql) = (d : IndexDefinition) × (name ≡ d.name) × IsCreateOf sql (new.Index d) × IsIndexOf d table index
 
 -- The index is listed with its table, and the pages hold it. No two of the table's rows clash in it.
-pub record IsListedWith (new : PageMap) (size : ℕ) (before : List Table) (db : Database) (table : Table) (index : Index) (rows : List TableRow) (after : List Table) : Type 0 where
+pub record IsListedWith (new : PageMap) (size : ℕ) (before : Listed) (db : Database) (table : Table) (index : Index) (rows : List TableRow) (after : Listed) : Type 0 where
   pub root : ℕ
   pub rowid : ℤ
   pub apart : has_clash (as_index table index) rows ≡ false
-  pub listed : after ≡ with_replaced (with_index (record index { root = root; rowid = rowid }) table) before
+  pub listed : after ≡ replacing (with_index (record index { root = root; rowid = rowid }) table) before
   pub holds : HoldsListed new size after (with_object db index.name (AnIndex (as_index table index)))
   pub rows_are : holds.rows_at table.root ≡ rows
 
@@ -72,10 +72,10 @@ IsListingRefusal table index name sql rows f = IsOutsideOrFull f
     ⊎ (has_clash (as_index table index) rows ≡ false) × ((root : ℕ) × AreTooLong (schema_row (codes "index") name table.name root sql) f)))
 
 -- An index of a new name, not listed as yet, is listed with a table, whatever its root and its rowid were; or the call is refused.
-abbrev pub ListsIndex : PageMap → PageMap → ℕ → List Table → Table → Index → Name → Option (List ℕ) → Result Catalog Fault → Type 0
-ListsIndex old new size before table index name sql result = (db : Database) (held : HoldsListed old size before db) → table_named table.name before ≡ Some table
+abbrev pub ListsIndex : PageMap → PageMap → ℕ → Listed → Table → Index → Name → Option (List ℕ) → Result Catalog Fault → Type 0
+ListsIndex old new size before table index name sql result = (db : Database) (held : HoldsListed old size before db) → table_named table.name before.tables ≡ Some table
     → is_name_of before index.name ≡ false → IsToldBy table index name sql
-    → MatchResult result (λ catalog. IsListedWith new size before db table index (held.rows_at table.root) (tables_of catalog))
+    → MatchResult result (λ catalog. IsListedWith new size before db table index (held.rows_at table.root) (listed_in catalog))
     (IsListingRefusal table index name sql (held.rows_at table.root))
 
 -- ---- the indexes of a table's keys
@@ -84,17 +84,17 @@ ListsIndex old new size before table index name sql result = (db : Database) (he
 abbrev pub key_index : List IndexColumn → Name → Index
 key_index columns name = record { name = folded name; columns = columns; is_unique = true; is_automatic = true; root = 0; rowid = pos 0 }
 
--- no table or index has the name of an automatic index of this table
-abbrev pub AreNewNames : List Table → Name → Type 0
-AreNewNames tables table = (number : ℕ) → is_name_of tables (folded (automatic_name table number)) ≡ false
+-- nothing that is listed has the name of an automatic index of this table
+abbrev pub AreNewNames : Listed → Name → Type 0
+AreNewNames l table = (number : ℕ) → is_name_of l (folded (automatic_name table number)) ≡ false
 
 -- The table has the indexes that so many of its keys ask for, in their order, and no others; the pages hold them.
-pub record IsKeyed (new : PageMap) (size : ℕ) (before : List Table) (db : Database) (table : Table) (count : ℕ) (after : List Table) : Type 0 where
+pub record IsKeyed (new : PageMap) (size : ℕ) (before : Listed) (db : Database) (table : Table) (count : ℕ) (after : Listed) : Type 0 where
   pub keyed : Table
   pub alike : keyed ≡ record table { indexes = keyed.indexes }
   pub automatic : AllByRecursion (λ i. i.is_automatic ≡ true) keyed.indexes
   pub keys : map (λ i. (i.name, AnIndex (as_index table i))) keyed.indexes ≡ take count (due_objects table)
-  pub listed : after ≡ with_replaced keyed before
+  pub listed : after ≡ replacing keyed before
   pub holds : HoldsListed new size after (with_objects db (take count (due_objects table)))
   pub empty : holds.rows_at table.root ≡ []
 
@@ -105,7 +105,7 @@ IsKeyRefusal table f = IsOutsideOrFull f
     ⊎ ((number : ℕ) × (root : ℕ) × AreTooLong (schema_row (codes "index") (automatic_name table.name number) table.name root None) f)
 
 -- Where the table of a name is listed without rows and indexes, each of its keys has an index; or the call is refused.
-abbrev pub ListsKeys : PageMap → PageMap → ℕ → List Table → Name → Result Catalog Fault → Type 0
-ListsKeys old new size before name result = (db : Database) (held : HoldsListed old size before db) (table : Table) → table_named name before ≡ Some table
+abbrev pub ListsKeys : PageMap → PageMap → ℕ → Listed → Name → Result Catalog Fault → Type 0
+ListsKeys old new size before name result = (db : Database) (held : HoldsListed old size before db) (table : Table) → table_named name before.tables ≡ Some table
     → table.indexes ≡ [] → held.rows_at table.root ≡ [] → AreNewNames before table.name
-    → MatchResult result (λ catalog. IsKeyed new size before db table (length table.keys) (tables_of catalog)) (IsKeyRefusal table)
+    → MatchResult result (λ catalog. IsKeyed new size before db table (length table.keys) (listed_in catalog)) (IsKeyRefusal table)

@@ -3,5 +3,6 @@ pub mod Forms
 pub mod Holding
 pub mod Listing
 pub mod Reading
+pub mod Refusing
 pub mod Works
 pub mod Writes

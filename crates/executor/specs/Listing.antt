@@ -1,5 +1,6 @@
 -- Rows that are added to the schema table, and taken out of it (Database File Format, "Storage Of The SQL Database Schema").
-use Rattle.std.specs.Prelude.{◌≡◌, ◌⊎◌, ⊤, false, ℕ, ℤ, List, [], ◌∷◌, None, Result, MatchResult}
+use Rattle.std.specs.Prelude.{◌≡◌, ◌⊎◌, ⊤, true, false, ℕ, ℤ, List, [], ◌∷◌, None, Result, MatchResult}
+use Rattle.sqlval.specs.Refusals.{Exists, Misuse, Refusal}
 use Rattle.sqlval.specs.declared.fault.Fault.{Fault}
 use Rattle.sqlval.specs.declared.fault.Fault.TheVariants as fault
 use Rattle.sqlval.specs.declared.value.Value.{Value}
@@ -9,11 +10,13 @@ use Rattle.tree_leaf.specs.Leaf.{Entry}
 use Rattle.pages.specs.Calls.{IsOutsideOrFull}
 use Rattle.pages.specs.Map.{PageMap}
 use Rattle.sql_syntax.specs.declared.create.TableDefinition.{TableDefinition}
-use Rattle.catalog.specs.Listed.{is_name_of}
+use Rattle.sql_syntax.specs.declared.create.ViewDefinition.{ViewDefinition}
+use Rattle.catalog.specs.Listed.{Listed, is_name_of, is_reserved, names_listed}
 use Rattle.catalog.specs.declared.tables.Table.{Table}
 use Rattle.db_pages.specs.Schema.{IsTableOf}
 use Rattle.tree_table.specs.Calls.{BecomesRows, Stands}
 use Rattle.tree_table.specs.Rows.{payload_at, with_row, without_row}
+use Rattle.query_names.specs.Scopes.{is_doubled}
 
 -- the tree has one more row, of these values and at this rowid
 pub record IsAdded (old new : PageMap) (size : ℕ) (values : List Value) (rows : List Entry) (used free : List ℕ) (rowid : ℤ) : Type 0 where
@@ -54,8 +57,19 @@ TakesSchemaRow old new size rowid result = (rows : List Entry) (used free : List
     → (payload_at rowid rows ≡ None → ⊥)
     → MatchResult result (λ done. BecomesRows old new size 1 (without_row rowid rows) used free) IsOutsideOrFull
 
--- The table of a definition, without indexes. Its name is new among the tables and their indexes.
-pub record IsNewTable (tables : List Table) (d : TableDefinition) (table : Table) : Type 0 where
+-- nothing is in the way of a view: its name may be given, nothing that is listed has it, and its text lists no name twice
+pub record IsNewView (l : Listed) (d : ViewDefinition) : Type 0 where
+  pub free : is_reserved d.name ≡ false
+  pub new : is_name_of l d.name ≡ false
+  pub once : is_doubled (names_listed d) ≡ false
+
+-- why one is refused
+abbrev pub IsViewRefusal : Listed → ViewDefinition → Refusal → Type 0
+IsViewRefusal l d r =
+    (r ≡ Misuse) × (is_reserved d.name ≡ true) ⊎ (((r ≡ Exists) × (is_name_of l d.name ≡ true)) ⊎ (r ≡ Misuse) × (is_doubled (names_listed d) ≡ true))
+
+-- The table of a definition, without indexes. Nothing that is listed has its name.
+pub record IsNewTable (l : Listed) (d : TableDefinition) (table : Table) : Type 0 where
   pub makes : IsTableOf d table
-  pub new : is_name_of tables d.name ≡ false
+  pub new : is_name_of l d.name ≡ false
   pub bare : table.indexes ≡ []

@@ -1,24 +1,29 @@
 -- What a query answers (SQL As Understood By SQLite, "SELECT").
-use Rattle.std.specs.Prelude.{◌≡◌, ◌⊎◌, ⊤, ℕ, suc, true, false, List, [], ◌∷◌, filter, length, map, Contains, MatchResult, Option, Some, Result, Ok, Err, option_and_then, slice_get, slice_set}
+use Rattle.std.specs.Prelude.{◌≡◌, ◌⊎◌, ◌≤◌, ℕ, true, false, List, [], ◌∷◌, filter, length, map, Contains, MatchResult, Option, Some, None, Result, Ok, Err, option_and_then, slice_get, slice_set}
+use Rattle.std.specs.List.{AllByRecursion}
 use Rattle.sqlval.specs.Faults.{IsOutside}
-use Rattle.sqlval.specs.Refusals.{Answer, refusal_of}
+use Rattle.sqlval.specs.Refusals.{Answer, ◌then◌, all_answers, refusal_of}
 use Rattle.sqlval.specs.declared.fault.Fault.{Fault}
 use Rattle.sqlval.specs.declared.value.Value.{Value}
 use Rattle.pages.specs.Map.{PageMap, AreWhole}
 use Rattle.sql_syntax.specs.declared.query.Query.{Query}
-use Rattle.catalog.specs.Database.{Database}
-use Rattle.catalog.specs.Listed.{table_named}
+use Rattle.catalog.specs.Database.{Database, Name}
+use Rattle.catalog.specs.Listed.{Listed, table_named, view_named}
 use Rattle.catalog.specs.declared.tables.Table.{Table}
+use Rattle.catalog.specs.declared.tables.View.{View}
 use Rattle.query_terms.specs.Values.{Row}
 use Rattle.query_names.specs.Checked.{Checked, Meant, faults}
 use Rattle.query_names.specs.Queries.{resolve_query}
 use Rattle.query_names.specs.Readings.{rows_over}
-use Rattle.query_names.specs.Views.{answer_of, look_up}
+use Rattle.query_names.specs.Views.{answer_of, loaded, look_up, rows_of}
+use Rattle.query_names.specs.Known.{IsKnownIn}
 use Rattle.query_names.specs.declared.queries.BoundSource.{BoundSource}
+use Rattle.query_names.specs.declared.queries.Origin.{Origin}
+use Rattle.query_names.specs.declared.queries.Origin.TheVariants.{Tree}
 use Rattle.query_names.specs.declared.reading.Reading.{Reading}
 use Rattle.query_plan.specs.Searching.{is_found}
 use Rattle.query_plan.specs.declared.searching.Search.{Search}
-use Rattle.query_bind.specs.Named.{ArePlaced}
+use Rattle.query_bind.specs.Named.{ArePlaced, IsPlaced}
 use Rattle.query_bind.specs.declared.querying.BoundReading.{BoundReading}
 use Rattle.query_answer.specs.Nesting.{Named, beside_rows}
 use Rattle.query_answer.specs.Parts.{is_row_by_row}
@@ -44,6 +49,10 @@ Asks db query reading = (resolve_query (look_up db) [] query ≡ Meant reading [
 -- the table of that name that a query's source of this number has, if there is one
 abbrev pub source_table : List Table → List Named → ℕ → Option Table
 source_table tables sources n = option_and_then (λ source. table_named source.0 tables) (slice_get sources n)
+
+-- the view of that name that a query's source of this number has, if there is one
+abbrev pub source_view : List View → List Named → ℕ → Option View
+source_view views sources n = option_and_then (λ source. view_named source.0 views) (slice_get sources n)
 
 -- it is the source of this number
 abbrev pub IsSourceOf : List Table → List Named → ℕ → Table → Type 0
@@ -93,35 +102,59 @@ abbrev pub LoadsNeeded : PageMap → ℕ → List Table → Reading → ℕ → 
 LoadsNeeded pages size tables q n place result = (rows : List TableRow) → HasSource pages size tables q.sources n place rows
     → MatchResult result (λ found. IsSameOver q n found (map as_source rows)) IsOutside
 
--- each source from this number on has its rows, where these are the rows of each tree
-abbrev pub HaveSources : PageMap → ℕ → List Table → List Named → (ℕ → List TableRow) → ℕ → List BoundSource → Type 0
-HaveSources pages size tables sources rows_at n [] = ⊤
-HaveSources pages size tables sources rows_at n (place ∷ places) =
-    HasSource pages size tables sources n place (rows_at place.root) × HaveSources pages size tables sources rows_at (suc n) places
+-- ---- sources that are tables or views
 
--- the rows of each source, as a query has them
-abbrev pub rows_in : (ℕ → List TableRow) → List BoundSource → List (List Row)
-rows_in rows_at places = map (λ place. map as_source (rows_at place.root)) places
+-- memory was short, or a disk's call failed; or it is the refusal of this answer
+abbrev pub IsRefusalOf : {A : Type 0} → Answer A → Fault → Type 0
+IsRefusalOf answer f = IsOutside f ⊎ (answer ≡ Err (refusal_of f))
+
+-- The name has these rows, with room for so many views one within another. The query comes to the same where those that are found are this
+-- source's.
+pub record AreSourceRows (room : ℕ) (db : Database) (q : Reading) (n : ℕ) (name : Name) (found : List Row) : Type 0 where
+  pub all : List Row
+  pub are : rows_of room db name ≡ Ok all
+  pub same : IsSameOver q n found all
+
+-- Such rows of the source of this number, which stands here, are read; or they are refused as its name's are.
+abbrev pub LoadsSource : PageMap → ℕ → Listed → ℕ → Reading → ℕ → Origin → Result (List Row) Fault → Type 0
+LoadsSource pages size l room q n origin result = (db : Database) (s : Named) → Stores pages size l db → slice_get q.sources n ≡ Some s → IsPlaced l s origin → room ≤ 64 → IsKnownIn room db s.0
+    → MatchResult result (AreSourceRows room db q n s.0) (IsRefusalOf (rows_of room db s.0))
+
+-- what each of these sources names isn't refused, with room for so many views one within another
+pub record AreKnown (room : ℕ) (db : Database) (sources : List Named) : Type 0 where
+  pub few : room ≤ 64
+  pub each : AllByRecursion (λ s. IsKnownIn room db s.0) sources
+
+-- the rows of each source, or the first refusal
+abbrev pub rows_of_each : ℕ → Database → List Named → Answer (List (List Row))
+rows_of_each room db sources = all_answers (map (λ s. rows_of room db s.0) sources)
 
 -- There are as many lists as sources, and the query comes to the same over them as over all rows of its sources.
-pub record AreEnoughFor (q : Reading) (lists all : List (List Row)) : Type 0 where
-  pub many : length lists ≡ length all
+pub record AreEnoughFor (room : ℕ) (db : Database) (q : Reading) (lists : List (List Row)) : Type 0 where
+  pub all : List (List Row)
+  pub are : rows_of_each room db q.sources ≡ Ok all
+  pub many : length lists ≡ length q.sources
   pub same : rows_over q [] (beside_rows q.sources lists) ≡ rows_over q [] (beside_rows q.sources all)
 
--- The lists that a call has read, seen by `view`, are enough; or memory was short, or a disk's call failed.
-abbrev pub LoadsSources : {X : Type 0} → (X → List (List Row)) → PageMap → ℕ → List Table → Reading → List BoundSource → Result X Fault → Type 0
-LoadsSources view pages size tables q places result = (rows_at : ℕ → List TableRow) → HaveSources pages size tables q.sources rows_at 0 places
-    → MatchResult result (λ x. AreEnoughFor q (view x) (rows_in rows_at places)) IsOutside
+-- The lists that a call has read, seen by `view`, are enough; or they are refused as the rows of the sources are.
+abbrev pub LoadsSources : {X : Type 0} → (X → List (List Row)) → PageMap → ℕ → Listed → ℕ → Reading → List Origin → Result X Fault → Type 0
+LoadsSources view pages size l room q origins result = (db : Database) → Stores pages size l db → ArePlaced l q.sources origins → AreKnown room db q.sources
+    → MatchResult result (λ x. AreEnoughFor room db q (view x)) (IsRefusalOf (rows_of_each room db q.sources))
+
+-- The rows of a listed view are read, with room for so many views one within another; or they are refused as those of its name are.
+abbrev pub ReadsView : PageMap → ℕ → Listed → ℕ → View → Result (List Row) Fault → Type 0
+ReadsView pages size l room view result = (db : Database) (name : Name) → Stores pages size l db → table_named name l.tables ≡ None → view_named name l.views ≡ Some view → room ≤ 64
+    → IsKnownIn room db name → AnswersOrFails (λ rows. rows) (rows_of room db name) result
 
 -- ---- how a query is answered
 
--- the query is row by row, its only source stands here, and nothing is sought of it
+-- the query is row by row, its only source is a table that stands here, and nothing is sought of it
 abbrev pub IsStreamed : List Table → BoundReading → BoundSource → Type 0
-IsStreamed tables bound place = (bound.tables ≡ place ∷ []) × (is_row_by_row bound.reading ≡ true) × IsScanned tables bound.reading 0
+IsStreamed tables bound place = (bound.origins ≡ Tree place ∷ []) × (is_row_by_row bound.reading ≡ true) × IsScanned tables bound.reading 0
 
--- where the query is row by row and has one source, something is sought of that
+-- where the query is row by row and has a table as its one source, something is sought of that
 abbrev pub IsLoaded : List Table → BoundReading → Type 0
-IsLoaded tables bound = (place : BoundSource) → bound.tables ≡ place ∷ [] → is_row_by_row bound.reading ≡ true → IsSearched tables bound.reading 0
+IsLoaded tables bound = (place : BoundSource) → bound.origins ≡ Tree place ∷ [] → is_row_by_row bound.reading ≡ true → IsSearched tables bound.reading 0
 
 -- What a call answered, seen by `view`, is what a query comes to over the rows of its only source, where its tree has some; or one of its
 -- refusals.
@@ -129,8 +162,17 @@ abbrev pub Streams : {X : Type 0} → (X → List (List Value)) → PageMap → 
 Streams view pages size reading table result = (rows : List TableRow) → AreWhole size pages → HasRows pages size table.root table.shape rows
     → AnswersOrFails view (rows_over reading [] (beside_rows reading.sources (map as_source rows ∷ []))) result
 
--- What a call answered of a query whose names are looked up, seen by `view`, is what the query comes to on the database that the pages store;
--- or one of its refusals.
-abbrev pub AnswersBound : {X : Type 0} → (X → List (List Value)) → PageMap → ℕ → List Table → BoundReading → Result X Fault → Type 0
-AnswersBound view pages size tables bound result = (db : Database) → Stores pages size tables db → ArePlaced tables bound.reading.sources bound.tables
-    → AnswersOrFails view (answer_of db [] bound.reading) result
+-- what a query comes to, with room for so many views one within another
+abbrev pub answer_within : ℕ → Database → Reading → Answer (List (List Value))
+answer_within room db q = loaded (rows_of room db) q.sources then rows_over q []
+
+-- What a call answered of a query whose names are looked up, seen by `view`, is what the query comes to on the database that the pages store,
+-- with room for so many views; or one of its refusals.
+abbrev pub AnswersBound : {X : Type 0} → (X → List (List Value)) → PageMap → ℕ → Listed → ℕ → BoundReading → Result X Fault → Type 0
+AnswersBound view pages size l room bound result = (db : Database) → Stores pages size l db → ArePlaced l bound.reading.sources bound.origins → AreKnown room db bound.reading.sources
+    → AnswersOrFails view (answer_within room db bound.reading) result
+
+-- the same of the query of a statement
+abbrev pub AnswersAsked : {X : Type 0} → (X → List (List Value)) → PageMap → ℕ → Listed → BoundReading → Result X Fault → Type 0
+AnswersAsked view pages size l bound result = (db : Database) (query : Query) → Stores pages size l db → ArePlaced l bound.reading.sources bound.origins
+    → resolve_query (look_up db) [] query ≡ Meant bound.reading [] → AnswersOrFails view (answer_of db [] bound.reading) result

@@ -1,12 +1,11 @@
--- The statements that change a database (SQL As Understood By SQLite, "INSERT", "DELETE", "UPDATE", "CREATE TABLE", "CREATE INDEX", "DROP TABLE").
-use Rattle.std.specs.Prelude.{Bool, true, false, List, Option, Some, None}
+-- The statements that change a database (SQL As Understood By SQLite, "INSERT", "DELETE", "UPDATE", "CREATE TABLE", "CREATE INDEX", "CREATE VIEW", "DROP TABLE").
+use Rattle.std.specs.Prelude.{Bool, true, false, Option, Some, None}
 use Rattle.sql_syntax.specs.declared.change.Change.TheVariants as change
 use Rattle.sql_syntax.specs.declared.create.NewObject.TheVariants as new
 use Rattle.sql_syntax.specs.declared.statement.Statement.{Statement}
 use Rattle.sql_syntax.specs.declared.statement.Statement.TheVariants as statement
-use Rattle.catalog.specs.Listed.{tables_of}
+use Rattle.catalog.specs.Listed.{Listed, listed_in}
 use Rattle.catalog.specs.declared.tables.Catalog.{Catalog}
-use Rattle.catalog.specs.declared.tables.Table.{Table}
 use Rattle.executor.specs.declared.changes.Write.{Write}
 use Rattle.executor.specs.declared.changes.Write.TheVariants as write
 
@@ -18,15 +17,17 @@ written (write.Update u) = statement.Change (change.Update u.now)
 written (write.Drop kind name) = statement.Drop kind name.now
 written (write.CreateTable sql d) = statement.Create (record { sql = sql.now; object = new.Table d.now })
 written (write.CreateIndex sql d) = statement.Create (record { sql = sql.now; object = new.Index d.now })
+written (write.CreateView sql d) = statement.Create (record { sql = sql.now; object = new.View d.now })
 
--- it creates or drops an object, so that other tables are listed then
+-- it creates or drops an object, so that other objects are listed then
 abbrev pub changes_objects : Write → Bool
 changes_objects (write.Drop kind name) = true
 changes_objects (write.CreateTable sql d) = true
 changes_objects (write.CreateIndex sql d) = true
+changes_objects (write.CreateView sql d) = true
 changes_objects _ = false
 
--- the tables that there are then: those of a catalog that was answered, or those that there were
-abbrev pub tables_then : List Table → Option Catalog → List Table
-tables_then before None = before
-tables_then before (Some catalog) = tables_of catalog
+-- what is listed then: in a catalog that was answered, or as before
+abbrev pub listed_then : Listed → Option Catalog → Listed
+listed_then before None = before
+listed_then before (Some catalog) = listed_in catalog

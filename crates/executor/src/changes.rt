@@ -2,21 +2,22 @@
 
 ghost use Rattle.std.specs.Prelude.{◌≡◌, IfNone, IfOk, IfSome, IsTrue, is_some, false};
 ghost use Rattle.pages.specs.Calls.{Causes};
-ghost use Rattle.catalog.specs.Listed.{tables_of};
+ghost use Rattle.catalog.specs.Listed.{listed_in, tables_of};
 ghost use Rattle.executor.specs.Changing.{MakesChange};
 ghost use Rattle.executor.specs.Forms as forms;
-ghost use Rattle.executor.specs.Writes.{changes_objects, tables_then, written};
+ghost use Rattle.executor.specs.Writes.{changes_objects, listed_then, written};
 
 use crate::creating::{create_index, create_table};
 use crate::deleting::delete_rows;
 use crate::dropping::drop_object;
 use crate::inserting::insert;
 use crate::updating::update_rows;
+use crate::views::create_view;
 use catalog::Catalog;
 use pages::WritePages;
 use sql_syntax::{
     Change, Create, Delete, IndexDefinition, Insert, NewObject, ObjectKind, Statement,
-    TableDefinition, Update,
+    TableDefinition, Update, ViewDefinition,
 };
 use sqlval::{Name, R, Text};
 use std::alloc::Global;
@@ -29,6 +30,7 @@ pub enum Write<'a> {
     Update(&'a Update),
     CreateTable(&'a Text, &'a TableDefinition),
     CreateIndex(&'a Text, &'a IndexDefinition),
+    CreateView(&'a Text, &'a ViewDefinition),
     Drop(ObjectKind, &'a Name),
 }
 
@@ -53,6 +55,12 @@ pub fn write_of(statement: &Statement) -> Option<Write<'_>>
                 object: NewObject::Index(index),
             },
         ) => Some(Write::CreateIndex(sql, index)),
+        Statement::Create(
+            Create {
+                sql,
+                object: NewObject::View(view),
+            },
+        ) => Some(Write::CreateView(sql, view)),
         Statement::Drop(kind, name) => Some(Write::Drop(*kind, name)),
         _ => None,
     }
@@ -68,9 +76,9 @@ pub fn change<P: WritePages>(
 ) -> R<Option<Catalog>>
     ensures made { IsTrue (P.Pages.tells (P.Pages.below pages.old))
         → forms.WhereSupported (written write.entry)
-        (MakesChange (tables_then (tables_of catalog.now)) (written write.entry)
+        (MakesChange (listed_then (listed_in catalog.now)) (written write.entry)
         (P.Pages.map pages.old) (P.Pages.map pages.new)
-        (P.Pages.limits (P.Pages.below pages.old)).page (tables_of catalog.now) result) }
+        (P.Pages.limits (P.Pages.below pages.old)).page (listed_in catalog.now) result) }
     ensures listed { IfOk result (λ next. is_some next ≡ changes_objects write.entry) }
     ensures kept { P.Pages.below pages.new ≡ P.Pages.below pages.old }
     ensures causes { Causes result (P.Pages.failures pages.old) (P.Pages.failures pages.new)
@@ -91,6 +99,7 @@ pub fn change<P: WritePages>(
         }
         Write::CreateTable(sql, table) => create_table(alloc, pages, catalog, sql, table)?,
         Write::CreateIndex(sql, index) => create_index(alloc, pages, catalog, sql, index)?,
+        Write::CreateView(sql, view) => create_view(alloc, pages, catalog, sql, view)?,
         Write::Drop(kind, name) => drop_object(alloc, pages, catalog, kind, name)?,
     };
     Ok(Some(next))

@@ -6,7 +6,7 @@ ghost use Rattle.sqlval.specs.Refusals.{refusal_of};
 ghost use Rattle.pages.specs.Calls.{Causes};
 ghost use Rattle.sql_syntax.specs.declared.create.NewObject.TheVariants as object;
 ghost use Rattle.sql_syntax.specs.declared.statement.Statement.TheVariants as statement;
-ghost use Rattle.catalog.specs.Listed.{is_name_of, table_named, tables_of};
+ghost use Rattle.catalog.specs.Listed.{is_name_of, listed_in, table_named, tables_of};
 ghost use Rattle.catalog.specs.declared.tables.Table.{Table as Listed};
 ghost use Rattle.query_names.specs.Creating.{IsCreateRefusal};
 ghost use Rattle.db_pages.specs.Schema.{IsCreateOf, IsTableOf, schema_row};
@@ -36,7 +36,7 @@ const NO_PAGE: u32 = 0;
 pub(crate) const SCHEMA: u32 = 1;
 
 /// The values of a row in the schema table.
-fn schema_values(
+pub(crate) fn schema_values(
     alloc: Global,
     kind: &str,
     name: &Name,
@@ -63,9 +63,9 @@ fn schema_values(
 /// The table of a definition, without a tree and a row in the schema table as yet. (`Misuse(ReservedName)`, `Exists`,
 /// and what `bind_columns` and `bind_checks` refuse.)
 fn table_of(alloc: Global, catalog: &Catalog, definition: &TableDefinition) -> R<Table>
-    ensures made { IfOk result (λ table. IsNewTable (tables_of catalog.now) definition.now table) }
+    ensures made { IfOk result (λ table. IsNewTable (listed_in catalog.now) definition.now table) }
     ensures why { IfErr result (λ fault. (fault ≡ Fault.Memory)
-        ⊎ IsCreateRefusal (tables_of catalog.now) definition.now (refusal_of fault)) }
+        ⊎ IsCreateRefusal (listed_in catalog.now) definition.now (refusal_of fault)) }
     ensures not_disk { IfErr result (λ fault. IsNotDiskFault fault) }
 {
     let name = &definition.name;
@@ -92,7 +92,12 @@ fn table_of(alloc: Global, catalog: &Catalog, definition: &TableDefinition) -> R
 
 /// Adds a row of these values to the schema table, at a rowid that none has. (`TooLong` if no record can hold them; what `insert` refuses;
 /// `Damaged(Order, 1)` if there is such a row.)
-fn add_row<P: WritePages>(alloc: Global, pages: &mut P, rowid: i64, values: &[Value]) -> R<()>
+pub(crate) fn add_row<P: WritePages>(
+    alloc: Global,
+    pages: &mut P,
+    rowid: i64,
+    values: &[Value],
+) -> R<()>
     ensures added { IsTrue (P.Pages.tells (P.Pages.below pages.old))
         → AddsRow (P.Pages.map pages.old) (P.Pages.map pages.new)
         (P.Pages.limits (P.Pages.below pages.old)).page rowid values.now result }
@@ -120,7 +125,7 @@ fn list_index<P: WritePages>(
 ) -> R<Catalog>
     ensures listed { IsTrue (P.Pages.tells (P.Pages.below pages.old))
         → ListsIndex (P.Pages.map pages.old) (P.Pages.map pages.new)
-        (P.Pages.limits (P.Pages.below pages.old)).page (tables_of catalog.now) table.now index name.now
+        (P.Pages.limits (P.Pages.below pages.old)).page (listed_in catalog.now) table.now index name.now
         (option_map (λ text. text.now) sql.entry) result }
     ensures kept { P.Pages.below pages.new ≡ P.Pages.below pages.old }
     ensures causes { Causes result (P.Pages.failures pages.old) (P.Pages.failures pages.new)
@@ -176,7 +181,7 @@ fn list_keys<P: WritePages>(
 ) -> R<Catalog>
     ensures listed { IsTrue (P.Pages.tells (P.Pages.below pages.old))
         → ListsKeys (P.Pages.map pages.old) (P.Pages.map pages.new)
-        (P.Pages.limits (P.Pages.below pages.old)).page (tables_of catalog) name.now result }
+        (P.Pages.limits (P.Pages.below pages.old)).page (listed_in catalog) name.now result }
     ensures kept { P.Pages.below pages.new ≡ P.Pages.below pages.old }
     ensures causes { Causes result (P.Pages.failures pages.old) (P.Pages.failures pages.new)
         (P.Pages.count pages.new ≡ (P.Pages.limits (P.Pages.below pages.new)).most) }
@@ -208,9 +213,9 @@ pub fn create_table<P: WritePages>(
 ) -> R<Catalog>
     ensures made { IsTrue (P.Pages.tells (P.Pages.below pages.old))
         → IsCreateOf sql.now (object.Table definition.now)
-        → MakesChange tables_of (statement.Create
+        → MakesChange listed_in (statement.Create
         (record { sql = sql.now; object = object.Table definition.now })) (P.Pages.map pages.old)
-        (P.Pages.map pages.new) (P.Pages.limits (P.Pages.below pages.old)).page (tables_of catalog.now) result }
+        (P.Pages.map pages.new) (P.Pages.limits (P.Pages.below pages.old)).page (listed_in catalog.now) result }
     ensures kept { P.Pages.below pages.new ≡ P.Pages.below pages.old }
     ensures causes { Causes result (P.Pages.failures pages.old) (P.Pages.failures pages.new)
         (P.Pages.count pages.new ≡ (P.Pages.limits (P.Pages.below pages.new)).most) }
@@ -244,9 +249,9 @@ pub fn create_index<P: WritePages>(
 ) -> R<Catalog>
     ensures made { IsTrue (P.Pages.tells (P.Pages.below pages.old))
         → IsCreateOf sql.now (object.Index definition.now)
-        → MakesChange tables_of (statement.Create
+        → MakesChange listed_in (statement.Create
         (record { sql = sql.now; object = object.Index definition.now })) (P.Pages.map pages.old)
-        (P.Pages.map pages.new) (P.Pages.limits (P.Pages.below pages.old)).page (tables_of catalog.now) result }
+        (P.Pages.map pages.new) (P.Pages.limits (P.Pages.below pages.old)).page (listed_in catalog.now) result }
     ensures kept { P.Pages.below pages.new ≡ P.Pages.below pages.old }
     ensures causes { Causes result (P.Pages.failures pages.old) (P.Pages.failures pages.new)
         (P.Pages.count pages.new ≡ (P.Pages.limits (P.Pages.below pages.new)).most) }

@@ -7,9 +7,10 @@ ghost use Rattle.sqlval.specs.Refusals.{refusal_of};
 ghost use Rattle.pages.specs.Calls.{Causes};
 ghost use Rattle.sql_syntax.specs.declared.change.Change.TheVariants as change;
 ghost use Rattle.sql_syntax.specs.declared.statement.Statement.TheVariants as statement;
-ghost use Rattle.catalog.specs.Listed.{table_named, tables_of};
+ghost use Rattle.catalog.specs.Listed.{listed_in, table_named, tables_of};
 ghost use Rattle.executor.specs.Changing.{MakesChange};
 
+use crate::refusing::{is_view, refuse_delete};
 use catalog::{Catalog, Table, named_databases_are_one, other_rows_are_listed};
 use pages::WritePages;
 use query_bind::bind_where;
@@ -41,9 +42,9 @@ pub fn delete_rows<P: WritePages>(
     delete: &Delete,
 ) -> R<()>
     ensures made { IsTrue (P.Pages.tells (P.Pages.below pages.old))
-        → MakesChange (λ done. tables_of catalog.now) (statement.Change (change.Delete delete.now))
+        → MakesChange (λ done. listed_in catalog.now) (statement.Change (change.Delete delete.now))
         (P.Pages.map pages.old) (P.Pages.map pages.new)
-        (P.Pages.limits (P.Pages.below pages.old)).page (tables_of catalog.now) result }
+        (P.Pages.limits (P.Pages.below pages.old)).page (listed_in catalog.now) result }
     ensures kept { P.Pages.below pages.new ≡ P.Pages.below pages.old }
     ensures causes { Causes result (P.Pages.failures pages.old) (P.Pages.failures pages.new)
         (P.Pages.count pages.new ≡ (P.Pages.limits (P.Pages.below pages.new)).most) }
@@ -51,6 +52,9 @@ pub fn delete_rows<P: WritePages>(
     other_rows_are_listed();
     named_databases_are_one();
     only_tables_set_nothing_off();
+    if is_view(catalog, &delete.table) {
+        return Err(refuse_delete(alloc, catalog, delete));
+    }
     let table = listed_table(alloc, catalog, &delete.table)?;
     let condition = bind_where(alloc, &delete.table, table, &delete.condition)?;
     db_write::delete_rows(alloc, pages, table, &condition)

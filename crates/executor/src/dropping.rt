@@ -9,12 +9,13 @@ ghost use Rattle.sqlval.specs.Refusals.{refusal_of};
 ghost use Rattle.pages.specs.Calls.{Causes};
 ghost use Rattle.sql_syntax.specs.declared.statement.ObjectKind.TheVariants as kinds;
 ghost use Rattle.sql_syntax.specs.declared.statement.Statement.TheVariants as statement;
-ghost use Rattle.catalog.specs.Listed.{rowids_in, table_with_index, tables_of};
+ghost use Rattle.catalog.specs.Listed.{listed_in, rowids_in, table_with_index, tables_of};
 ghost use Rattle.executor.specs.Changing.{MakesChange};
 ghost use Rattle.executor.specs.Listing.{TakesSchemaRow, TakesSchemaRows};
 
 use crate::creating::SCHEMA;
 use crate::deleting::listed_table;
+use crate::views::drop_view;
 use catalog::{
     Catalog, Index, Table, indexes_come_and_go, listed_tables_are_found, other_tables_are_listed,
     without_index,
@@ -28,7 +29,7 @@ use std::alloc::Global;
 use tree_table::remove;
 
 /// Takes the row of a rowid out of the schema table. (What `remove` refuses; `Damaged(Schema, 1)` if there is none.)
-fn take_row<P: WritePages>(alloc: Global, pages: &mut P, rowid: i64) -> R<()>
+pub(crate) fn take_row<P: WritePages>(alloc: Global, pages: &mut P, rowid: i64) -> R<()>
     ensures taken { IsTrue (P.Pages.tells (P.Pages.below pages.old))
         → TakesSchemaRow (P.Pages.map pages.old) (P.Pages.map pages.new)
         (P.Pages.limits (P.Pages.below pages.old)).page rowid result }
@@ -85,7 +86,7 @@ fn object_of(kind: ObjectKind) -> Object {
 }
 
 /// The refusal of a name that no object of a kind has. (`Memory` if there is no room for it.)
-fn no_such(alloc: Global, kind: ObjectKind, name: &Name) -> Fault
+pub(crate) fn no_such(alloc: Global, kind: ObjectKind, name: &Name) -> Fault
     ensures refused { (result ≡ Fault.Memory) ⊎ (refusal_of result ≡ refusal.NoSuch) }
     ensures not_disk { IsNotDiskFault result }
 {
@@ -104,9 +105,9 @@ fn drop_table<P: WritePages>(
     name: &Name,
 ) -> R<Catalog>
     ensures made { IsTrue (P.Pages.tells (P.Pages.below pages.old))
-        → MakesChange tables_of (statement.Drop kinds.Table name.now) (P.Pages.map pages.old)
+        → MakesChange listed_in (statement.Drop kinds.Table name.now) (P.Pages.map pages.old)
         (P.Pages.map pages.new)
-        (P.Pages.limits (P.Pages.below pages.old)).page (tables_of catalog.now) result }
+        (P.Pages.limits (P.Pages.below pages.old)).page (listed_in catalog.now) result }
     ensures kept { P.Pages.below pages.new ≡ P.Pages.below pages.old }
     ensures causes { Causes result (P.Pages.failures pages.old) (P.Pages.failures pages.new)
         (P.Pages.count pages.new ≡ (P.Pages.limits (P.Pages.below pages.new)).most) }
@@ -148,9 +149,9 @@ fn drop_listed_index<P: WritePages>(
         → table_with_index name.now (tables_of catalog.now) ≡ Some table.now
         → find (λ other. is_same_name other.name name.now) table.now.indexes ≡ Some index.now
         → index.now.is_automatic ≡ false
-        → MakesChange tables_of (statement.Drop kinds.Index name.now) (P.Pages.map pages.old)
+        → MakesChange listed_in (statement.Drop kinds.Index name.now) (P.Pages.map pages.old)
         (P.Pages.map pages.new)
-        (P.Pages.limits (P.Pages.below pages.old)).page (tables_of catalog.now) result }
+        (P.Pages.limits (P.Pages.below pages.old)).page (listed_in catalog.now) result }
     ensures kept { P.Pages.below pages.new ≡ P.Pages.below pages.old }
     ensures causes { Causes result (P.Pages.failures pages.old) (P.Pages.failures pages.new)
         (P.Pages.count pages.new ≡ (P.Pages.limits (P.Pages.below pages.new)).most) }
@@ -191,9 +192,9 @@ fn drop_index<P: WritePages>(
     name: &Name,
 ) -> R<Catalog>
     ensures made { IsTrue (P.Pages.tells (P.Pages.below pages.old))
-        → MakesChange tables_of (statement.Drop kinds.Index name.now) (P.Pages.map pages.old)
+        → MakesChange listed_in (statement.Drop kinds.Index name.now) (P.Pages.map pages.old)
         (P.Pages.map pages.new)
-        (P.Pages.limits (P.Pages.below pages.old)).page (tables_of catalog.now) result }
+        (P.Pages.limits (P.Pages.below pages.old)).page (listed_in catalog.now) result }
     ensures kept { P.Pages.below pages.new ≡ P.Pages.below pages.old }
     ensures causes { Causes result (P.Pages.failures pages.old) (P.Pages.failures pages.new)
         (P.Pages.count pages.new ≡ (P.Pages.limits (P.Pages.below pages.new)).most) }
@@ -206,7 +207,7 @@ fn drop_index<P: WritePages>(
     drop_listed_index(alloc, pages, catalog, table, index, name)
 }
 
-/// Drops an object, and answers the catalog without it. (`NoSuch`, also for each view and trigger, since there are none;
+/// Drops an object, and answers the catalog without it. (`NoSuch`, also for each trigger, since there are none;
 /// `Misuse(Autoindex)`; what removing rows of the schema table and freeing trees refuse; then some pages may have changed.)
 pub fn drop_object<P: WritePages>(
     alloc: Global,
@@ -216,8 +217,8 @@ pub fn drop_object<P: WritePages>(
     name: &Name,
 ) -> R<Catalog>
     ensures made { IsTrue (P.Pages.tells (P.Pages.below pages.old))
-        → MakesChange tables_of (statement.Drop kind name.now) (P.Pages.map pages.old) (P.Pages.map pages.new)
-        (P.Pages.limits (P.Pages.below pages.old)).page (tables_of catalog.now) result }
+        → MakesChange listed_in (statement.Drop kind name.now) (P.Pages.map pages.old) (P.Pages.map pages.new)
+        (P.Pages.limits (P.Pages.below pages.old)).page (listed_in catalog.now) result }
     ensures kept { P.Pages.below pages.new ≡ P.Pages.below pages.old }
     ensures causes { Causes result (P.Pages.failures pages.old) (P.Pages.failures pages.new)
         (P.Pages.count pages.new ≡ (P.Pages.limits (P.Pages.below pages.new)).most) }
@@ -226,6 +227,7 @@ pub fn drop_object<P: WritePages>(
     match kind {
         ObjectKind::Table => drop_table(alloc, pages, catalog, name),
         ObjectKind::Index => drop_index(alloc, pages, catalog, name),
+        ObjectKind::View => drop_view(alloc, pages, catalog, name),
         _ => Err(no_such(alloc, kind, name)),
     }
 }

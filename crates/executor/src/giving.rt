@@ -7,7 +7,7 @@ ghost use Rattle.sqlval.specs.Refusals.{all_answers};
 ghost use Rattle.pages.specs.Calls.{Stays};
 ghost use Rattle.sql_syntax.specs.declared.change.InsertSource.TheVariants as source;
 ghost use Rattle.catalog.specs.Database.{Database};
-ghost use Rattle.catalog.specs.Listed.{tables_of};
+ghost use Rattle.catalog.specs.Listed.{listed_in};
 ghost use Rattle.sql_syntax.specs.declared.query.Query.{Query as Asked};
 ghost use Rattle.query_names.specs.Checked.{known_all};
 ghost use Rattle.query_names.specs.Expressions.{resolve};
@@ -46,7 +46,7 @@ fn bind_row(alloc: Global, row: &[Expr]) -> R<Many<Term>>
 }
 
 /// Looks up the names of the rows of VALUES. (What `bind_row` refuses.)
-fn bind_rows(alloc: Global, rows: &[Many<Expr>]) -> R<Many<Many<Term>>>
+pub(crate) fn bind_rows(alloc: Global, rows: &[Many<Expr>]) -> R<Many<Many<Term>>>
     ensures { NamesBy (λ found. found) (known_all
         (map (λ row. known_all (map (resolve false []) row)) rows.now)) result }
 {
@@ -88,7 +88,7 @@ fn evaluated_rows(alloc: Global, rows: &[Many<Term>]) -> R<Rows>
 }
 
 /// Whether a row has another number of values than `count`.
-fn has_other_count(rows: &[Many<Expr>], count: usize) -> bool
+pub(crate) fn has_other_count(rows: &[Many<Expr>], count: usize) -> bool
     ensures { result ≡ list_any (λ row. not (count == length row)) rows.now }
 {
     rows.iter().any(|row| count != row.len())
@@ -120,8 +120,8 @@ fn counted_rows<P: Pages>(
     ensures given { (db : Database) (query : Asked)
         → IsTrue (P.Pages.tells (P.Pages.below pages.old))
         → Stores (P.Pages.map pages.old) (P.Pages.limits (P.Pages.below pages.old)).page
-        (tables_of catalog.now) db
-        → ArePlaced (tables_of catalog.now) bound.now.reading.sources bound.now.tables
+        (listed_in catalog.now) db
+        → ArePlaced (listed_in catalog.now) bound.now.reading.sources bound.now.origins
         → Asks db query bound.now.reading → AnswersRead (λ found. map values_of found.items)
         (given_on db count (source.Query query)) result }
     ensures wide { IfOk result (λ found. HaveWidth count (map values_of found.items)) }
@@ -143,7 +143,7 @@ fn queried_rows<P: Pages>(
 ) -> R<Rows>
     ensures given { (db : Database) → IsTrue (P.Pages.tells (P.Pages.below pages.old))
         → Stores (P.Pages.map pages.old) (P.Pages.limits (P.Pages.below pages.old)).page
-        (tables_of catalog.now) db
+        (listed_in catalog.now) db
         → AnswersRead (λ found. map values_of found.items) (given_on db count (source.Query query.now)) result }
     ensures wide { IfOk result (λ found. HaveWidth count (map values_of found.items)) }
     ensures stays { Stays P.Pages.below P.Pages.map P.Pages.count P.Pages.failures result pages.old pages.new }
@@ -162,7 +162,7 @@ pub fn given_rows<P: Pages>(
 ) -> R<Rows>
     ensures given { (db : Database) → IsTrue (P.Pages.tells (P.Pages.below pages.old))
         → Stores (P.Pages.map pages.old) (P.Pages.limits (P.Pages.below pages.old)).page
-        (tables_of catalog.now) db
+        (listed_in catalog.now) db
         → AnswersRead (λ found. map values_of found.items) (given_on db count source.now) result }
     ensures wide { IfOk result (λ found. HaveWidth count (map values_of found.items)) }
     ensures stays { Stays P.Pages.below P.Pages.map P.Pages.count P.Pages.failures result pages.old pages.new }

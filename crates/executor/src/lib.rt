@@ -8,7 +8,9 @@ mod dropping;
 mod giving;
 mod inserting;
 mod reading;
+mod refusing;
 mod updating;
+mod views;
 
 pub use changes::{Write, change, write_of};
 pub use creating::{create_index, create_table};
@@ -17,3 +19,4 @@ pub use dropping::drop_object;
 pub use inserting::insert;
 pub use reading::read;
 pub use updating::update_rows;
+pub use views::create_view;

@@ -1,31 +1,38 @@
 //! The rows of a query.
 
-ghost use Rattle.std.specs.Prelude.{◌≡◌, false, length, map, option_map, true, IfErr, IfNone, IfOk, IfSome, IsTrue};
+ghost use Rattle.std.specs.Prelude.{◌≡◌, ◌∷◌, [], false, length, map, option_map, true, IfErr, IfNone, IfOk, IfSome, IsTrue};
+ghost use Rattle.sqlval.specs.Faults.{IsOrMemory};
 ghost use Rattle.pages.specs.Calls.{Stays};
 ghost use Rattle.catalog.specs.Database.{Database};
-ghost use Rattle.catalog.specs.Listed.{tables_of};
+ghost use Rattle.catalog.specs.Listed.{listed_in, tables_of, views_of};
+ghost use Rattle.query_names.specs.Views.{plain_rows};
+ghost use Rattle.query_names.specs.declared.queries.BoundSource.{BoundSource as Place};
+ghost use Rattle.query_names.specs.declared.queries.Origin.TheVariants as source;
 ghost use Rattle.query_answer.specs.Answers.{HaveWidth};
 ghost use Rattle.query_answer.specs.Parts.{is_row_by_row as row_by_row};
 ghost use Rattle.row_scan.specs.Rows.{values_of};
-ghost use Rattle.executor.specs.Reading.{AnswersBound, AnswersRead, IsLoaded, IsScanned, IsSearched, IsStreamed, LoadsNeeded, LoadsSought, LoadsSources, Streams, source_table};
+ghost use Rattle.executor.specs.Reading.{AnswersAsked, AnswersBound, AnswersRead, IsLoaded, IsScanned, IsSearched, IsStreamed, LoadsNeeded, LoadsSought, LoadsSource, LoadsSources, ReadsView, Streams, source_table, source_view};
 ghost use Rattle.db_pages.specs.Stored.{Stores};
 ghost use Rattle.executor.specs.Works.{read_on};
 
-use catalog::{Catalog, Table};
+use catalog::{Catalog, Table, View, listed_tables_are_found};
 use pages::Pages;
 use query_answer::{
     GivenRows, answer, finish, give_rows, is_row_by_row, rows_are_given_in_parts,
     rows_are_loaded_beside_conditions, search_at, searches_as_scans,
 };
 use query_bind::{BoundReading, bind_reading};
-use query_names::{BoundSource, Reading};
+use query_names::{BoundSource, Origin, Reading, sources_are_known, views_are_known};
 use query_terms::SourceRow;
 use row_scan::{Rows, next_source_rows, rows_are_held, source_rows};
 use row_search::found_rows;
 use sql_syntax::Query;
-use sqlval::{Fault, Many, R};
+use sqlval::{Fault, Many, R, Value};
 use std::alloc::Global;
 use tree_table::{Batch, Cursor};
+
+/// How many views may stand one within another.
+const MAX_VIEWS: usize = 64;
 
 /// The table that a query's source of a number is, if there is one of its name.
 fn table_of<'a>(catalog: &'a Catalog, reading: &Reading, source: usize) -> Option<&'a Table>
@@ -63,51 +70,6 @@ fn needed_rows<P: Pages>(
         Some(search) => found_rows(alloc, pages, place, indexes, search),
         None => source_rows(alloc, pages, place),
     }
-}
-
-/// The rows of each source of a query that it needs. (What `needed_rows` refuses.)
-fn load_sources<P: Pages>(
-    alloc: Global,
-    pages: &mut P,
-    catalog: &Catalog,
-    reading: &Reading,
-    places: &[BoundSource],
-) -> R<Vec<Many<SourceRow>>>
-    ensures loaded { IsTrue (P.Pages.tells (P.Pages.below pages.old))
-        → LoadsSources (λ sources. sources.items) (P.Pages.map pages.old)
-        (P.Pages.limits (P.Pages.below pages.old)).page
-        (tables_of catalog.now) reading.now places.now result }
-    ensures stays { Stays P.Pages.below P.Pages.map P.Pages.count P.Pages.failures result pages.old pages.new }
-{
-    let mut sources = Vec::new(alloc);
-    let mut left = places;
-    'sources: while let Some((place, rest)) = left.split_first() {
-        let source = sources.len();
-        sources.push(needed_rows(alloc, pages, catalog, reading, source, *place)?)?;
-        left = rest;
-    }
-    Ok(sources)
-}
-
-/// The rows of a query over the rows of its sources that it needs. (What `load_sources` and `answer` refuse.)
-fn loaded_rows<P: Pages>(
-    alloc: Global,
-    pages: &mut P,
-    catalog: &Catalog,
-    bound: &BoundReading,
-) -> R<Rows>
-    ensures answered { IsTrue (P.Pages.tells (P.Pages.below pages.old))
-        → AnswersBound (λ rows. map values_of rows.items) (P.Pages.map pages.old)
-        (P.Pages.limits (P.Pages.below pages.old)).page
-        (tables_of catalog.now) bound.now result }
-    ensures wide { IfOk result (λ rows. HaveWidth (length bound.now.reading.results)
-        (map values_of rows.items)) }
-    ensures stays { Stays P.Pages.below P.Pages.map P.Pages.count P.Pages.failures result pages.old pages.new }
-{
-    rows_are_loaded_beside_conditions();
-    let places = bound.tables.as_slice();
-    let sources = load_sources(alloc, pages, catalog, &bound.reading, places)?;
-    answer(alloc, &bound.reading, &sources)
 }
 
 /// The rows of a query that is row by row: its source's tree is read leaf by leaf, and no more of it is held than one leaf. (What
@@ -152,32 +114,171 @@ fn seeks(alloc: Global, catalog: &Catalog, reading: &Reading, source: usize) -> 
     }
 }
 
-/// The only source of a query that is row by row and seeks nothing of it. (`Memory`.)
+/// The table that a query's only source is, where it has one source and that is a table.
+fn only_tree(origins: &[Origin]) -> Option<BoundSource>
+    ensures is { IfSome result (λ place. origins.now ≡ source.Tree place ∷ []) }
+    ensures none { IfNone result ((place : Place) → origins.now ≡ source.Tree place ∷ [] → ⊥) }
+{
+    let (first, rest) = origins.split_first()?;
+    if !rest.is_empty() {
+        return None;
+    }
+    match *first {
+        Origin::Tree(place) => Some(place),
+        Origin::View => None,
+    }
+}
+
+/// The only source of a query that is row by row, where it is a table of which the query seeks nothing. (`Memory`.)
 fn streamed_source(alloc: Global, catalog: &Catalog, bound: &BoundReading) -> R<Option<BoundSource>>
     ensures is { IfOk result (λ found. IfSome found (IsStreamed (tables_of catalog.now) bound.now)) }
     ensures only { IfOk result (λ found. IfNone found (IsLoaded (tables_of catalog.now) bound.now)) }
     ensures refused { IfErr result (λ fault. fault ≡ Fault.Memory) }
 {
-    let [place] = bound.tables.as_slice() else {
+    let Some(place) = only_tree(bound.origins.as_slice()) else {
         return Ok(None);
     };
     if !is_row_by_row(&bound.reading) || seeks(alloc, catalog, &bound.reading, 0)? {
         return Ok(None);
     }
-    Ok(Some(*place))
+    Ok(Some(place))
 }
 
-/// The rows of a query whose names are looked up. (What `streamed_source`, `streamed_rows` and `loaded_rows` refuse.)
-pub(crate) fn bound_rows<P: Pages>(
+/// The view that a query's source of a number is, if there is one of its name.
+fn view_of<'a>(catalog: &'a Catalog, reading: &Reading, source: usize) -> Option<&'a View>
+    ensures { option_map (λ view. view.now) result ≡ source_view
+        (views_of catalog.now) reading.now.sources source }
+{
+    let (name, _) = reading.sources.as_slice().get(source)?;
+    catalog.view(name.as_str())
+}
+
+/// The rows of an answer, without rowids, as those of a source. (`Memory` alone.)
+fn made_rows(alloc: Global, rows: Rows) -> R<Many<SourceRow>>
+    ensures { IsOrMemory (λ made. made ≡ plain_rows (map values_of rows.items)) result }
+{
+    let mut made = Vec::with_capacity(alloc, rows.len())?;
+    'rows: for row in rows {
+        let values = Many::from_vec(row.into_vec()?);
+        made.push(SourceRow::made(Value::Null, values))?;
+    }
+    Ok(Many::from_vec(made))
+}
+
+/// All rows of a view, in the order of its answer, where up to `room` views stand one within another. (What `bind_reading` and `rows_within`
+/// refuse.)
+#[cycle(rows_within)]
+fn view_rows<P: Pages>(
     alloc: Global,
     pages: &mut P,
     catalog: &Catalog,
+    room: usize,
+    view: &View,
+) -> R<Many<SourceRow>>
+    ensures read { IsTrue (P.Pages.tells (P.Pages.below pages.old))
+        → ReadsView (P.Pages.map pages.old) (P.Pages.limits (P.Pages.below pages.old)).page
+        (listed_in catalog.now) room view.now result }
+    ensures stays { Stays P.Pages.below P.Pages.map P.Pages.count P.Pages.failures result pages.old pages.new }
+{
+    views_are_known();
+    listed_tables_are_found();
+    if room == 0 {
+        return Err(Fault::TooLong);
+    }
+    let bound = bind_reading(alloc, catalog, &view.definition.query)?;
+    let rows = rows_within(alloc, pages, catalog, room - 1, &bound)?;
+    made_rows(alloc, rows)
+}
+
+/// The rows of a query's source: of a table those that the query needs, and all of a view. (What `needed_rows` and `view_rows` refuse.)
+#[cycle(rows_within)]
+fn rows_of_source<P: Pages>(
+    alloc: Global,
+    pages: &mut P,
+    catalog: &Catalog,
+    room: usize,
+    reading: &Reading,
+    source: usize,
+    origin: Origin,
+) -> R<Many<SourceRow>>
+    ensures loaded { IsTrue (P.Pages.tells (P.Pages.below pages.old))
+        → LoadsSource (P.Pages.map pages.old) (P.Pages.limits (P.Pages.below pages.old)).page
+        (listed_in catalog.now) room reading.now source origin result }
+    ensures stays { Stays P.Pages.below P.Pages.map P.Pages.count P.Pages.failures result pages.old pages.new }
+{
+    match origin {
+        Origin::Tree(place) => needed_rows(alloc, pages, catalog, reading, source, place),
+        Origin::View => match view_of(catalog, reading, source) {
+            Some(view) => view_rows(alloc, pages, catalog, room, view),
+            None => Ok(Many::new(alloc)),
+        },
+    }
+}
+
+/// The rows of each source of a query, in their order, until one is refused. (What `rows_of_source` refuses.)
+#[cycle(rows_within)]
+fn load_sources<P: Pages>(
+    alloc: Global,
+    pages: &mut P,
+    catalog: &Catalog,
+    room: usize,
+    reading: &Reading,
+    origins: &[Origin],
+) -> R<Vec<Many<SourceRow>>>
+    ensures loaded { IsTrue (P.Pages.tells (P.Pages.below pages.old))
+        → LoadsSources (λ sources. sources.items) (P.Pages.map pages.old)
+        (P.Pages.limits (P.Pages.below pages.old)).page
+        (listed_in catalog.now) room reading.now origins.now result }
+    ensures stays { Stays P.Pages.below P.Pages.map P.Pages.count P.Pages.failures result pages.old pages.new }
+{
+    let mut sources = Vec::new(alloc);
+    let mut left = origins;
+    'sources: while let Some((origin, rest)) = left.split_first() {
+        let source = sources.len();
+        let rows = rows_of_source(alloc, pages, catalog, room, reading, source, *origin)?;
+        sources.push(rows)?;
+        left = rest;
+    }
+    Ok(sources)
+}
+
+/// The rows of a query over the rows of its sources that it needs. (What `load_sources` and `answer` refuse.)
+#[cycle(rows_within)]
+fn loaded_rows<P: Pages>(
+    alloc: Global,
+    pages: &mut P,
+    catalog: &Catalog,
+    room: usize,
     bound: &BoundReading,
 ) -> R<Rows>
     ensures answered { IsTrue (P.Pages.tells (P.Pages.below pages.old))
         → AnswersBound (λ rows. map values_of rows.items) (P.Pages.map pages.old)
         (P.Pages.limits (P.Pages.below pages.old)).page
-        (tables_of catalog.now) bound.now result }
+        (listed_in catalog.now) room bound.now result }
+    ensures wide { IfOk result (λ rows. HaveWidth (length bound.now.reading.results)
+        (map values_of rows.items)) }
+    ensures stays { Stays P.Pages.below P.Pages.map P.Pages.count P.Pages.failures result pages.old pages.new }
+{
+    rows_are_loaded_beside_conditions();
+    let origins = bound.origins.as_slice();
+    let sources = load_sources(alloc, pages, catalog, room, &bound.reading, origins)?;
+    answer(alloc, &bound.reading, &sources)
+}
+
+/// The rows of a query whose names are looked up, where up to `room` views stand one within another. (What `streamed_source`, `streamed_rows`
+/// and `loaded_rows` refuse.)
+#[cycle(rows_within)]
+fn rows_within<P: Pages>(
+    alloc: Global,
+    pages: &mut P,
+    catalog: &Catalog,
+    room: usize,
+    bound: &BoundReading,
+) -> R<Rows>
+    ensures answered { IsTrue (P.Pages.tells (P.Pages.below pages.old))
+        → AnswersBound (λ rows. map values_of rows.items) (P.Pages.map pages.old)
+        (P.Pages.limits (P.Pages.below pages.old)).page
+        (listed_in catalog.now) room bound.now result }
     ensures wide { IfOk result (λ rows. HaveWidth (length bound.now.reading.results)
         (map values_of rows.items)) }
     ensures stays { Stays P.Pages.below P.Pages.map P.Pages.count P.Pages.failures result pages.old pages.new }
@@ -185,15 +286,34 @@ pub(crate) fn bound_rows<P: Pages>(
     rows_are_loaded_beside_conditions();
     match streamed_source(alloc, catalog, bound)? {
         Some(place) => streamed_rows(alloc, pages, &bound.reading, place),
-        None => loaded_rows(alloc, pages, catalog, bound),
+        None => loaded_rows(alloc, pages, catalog, room, bound),
     }
+}
+
+/// The rows of a statement's query whose names are looked up. (What `rows_within` refuses.)
+pub(crate) fn bound_rows<P: Pages>(
+    alloc: Global,
+    pages: &mut P,
+    catalog: &Catalog,
+    bound: &BoundReading,
+) -> R<Rows>
+    ensures answered { IsTrue (P.Pages.tells (P.Pages.below pages.old))
+        → AnswersAsked (λ rows. map values_of rows.items) (P.Pages.map pages.old)
+        (P.Pages.limits (P.Pages.below pages.old)).page
+        (listed_in catalog.now) bound.now result }
+    ensures wide { IfOk result (λ rows. HaveWidth (length bound.now.reading.results)
+        (map values_of rows.items)) }
+    ensures stays { Stays P.Pages.below P.Pages.map P.Pages.count P.Pages.failures result pages.old pages.new }
+{
+    sources_are_known();
+    rows_within(alloc, pages, catalog, MAX_VIEWS, bound)
 }
 
 /// The rows of a query. (What `bind_reading` and `bound_rows` refuse.)
 pub fn read<P: Pages>(alloc: Global, pages: &mut P, catalog: &Catalog, query: &Query) -> R<Rows>
     ensures answered { (db : Database) → IsTrue (P.Pages.tells (P.Pages.below pages.old))
         → Stores (P.Pages.map pages.old) (P.Pages.limits (P.Pages.below pages.old)).page
-        (tables_of catalog.now) db
+        (listed_in catalog.now) db
         → AnswersRead (λ rows. map values_of rows.items) (read_on db query.now) result }
     ensures stays { Stays P.Pages.below P.Pages.map P.Pages.count P.Pages.failures result pages.old pages.new }
 {

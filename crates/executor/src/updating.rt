@@ -4,10 +4,11 @@ ghost use Rattle.std.specs.Prelude.{◌≡◌, IsTrue};
 ghost use Rattle.pages.specs.Calls.{Causes};
 ghost use Rattle.sql_syntax.specs.declared.change.Change.TheVariants as change;
 ghost use Rattle.sql_syntax.specs.declared.statement.Statement.TheVariants as statement;
-ghost use Rattle.catalog.specs.Listed.{tables_of};
+ghost use Rattle.catalog.specs.Listed.{listed_in, tables_of};
 ghost use Rattle.executor.specs.Changing.{MakesChange};
 
 use crate::deleting::listed_table;
+use crate::refusing::{is_view, refuse_update};
 use catalog::{Catalog, listed_indexes_are_found, named_databases_are_one, other_rows_are_listed};
 use pages::WritePages;
 use query_bind::{bind_sets, bind_where};
@@ -25,9 +26,9 @@ pub fn update_rows<P: WritePages>(
     update: &Update,
 ) -> R<()>
     ensures made { IsTrue (P.Pages.tells (P.Pages.below pages.old))
-        → MakesChange (λ done. tables_of catalog.now) (statement.Change (change.Update update.now))
+        → MakesChange (λ done. listed_in catalog.now) (statement.Change (change.Update update.now))
         (P.Pages.map pages.old) (P.Pages.map pages.new)
-        (P.Pages.limits (P.Pages.below pages.old)).page (tables_of catalog.now) result }
+        (P.Pages.limits (P.Pages.below pages.old)).page (listed_in catalog.now) result }
     ensures kept { P.Pages.below pages.new ≡ P.Pages.below pages.old }
     ensures causes { Causes result (P.Pages.failures pages.old) (P.Pages.failures pages.new)
         (P.Pages.count pages.new ≡ (P.Pages.limits (P.Pages.below pages.new)).most) }
@@ -37,6 +38,9 @@ pub fn update_rows<P: WritePages>(
     listed_indexes_are_found();
     only_tables_set_nothing_off();
     update_sets_off_nothing();
+    if is_view(catalog, &update.table) {
+        return Err(refuse_update(alloc, catalog, update));
+    }
     let table = listed_table(alloc, catalog, &update.table)?;
     let sets = bind_sets(alloc, &update.table, table, update.assignments.as_slice())?;
     let condition = bind_where(alloc, &update.table, table, &update.condition)?;

@@ -15,12 +15,13 @@ use Rattle.sqlval.specs.declared.value.Value.{Value}
 use Rattle.sql_syntax.specs.declared.create.IndexColumn.{IndexColumn as Written}
 use Rattle.sql_syntax.specs.declared.create.IndexDefinition.{IndexDefinition}
 use Rattle.sql_syntax.specs.declared.create.NewObject.TheVariants as new
-use Rattle.catalog.specs.Database.{Name, Database, Object, TableColumn, ATable, AnIndex, object, with_object}
-use Rattle.catalog.specs.Laws.{FindsListed, IsNoTable, NamesListed}
-use Rattle.catalog.specs.Listed.{Lists, is_reserved, place_named, as_column, with_rows, table_named}
+use Rattle.catalog.specs.Database.{Name, Database, Object, TableColumn, ATable, AnIndex, AView, object, with_object}
+use Rattle.catalog.specs.Laws.{FindsListed, IsNoSource, IsNoTable, NamesListed}
+use Rattle.catalog.specs.Listed.{Listed, Lists, is_reserved, place_named, as_column, with_rows, table_named, as_view, view_named}
 use Rattle.catalog.specs.declared.tables.Column.{Column}
 use Rattle.catalog.specs.declared.tables.IndexColumn.{IndexColumn}
 use Rattle.catalog.specs.declared.tables.Table.{Table}
+use Rattle.catalog.specs.declared.tables.View.{View}
 use Rattle.query_names.specs.Bound.{IsFaultOf, is_twice_named, source_seen}
 use Rattle.query_names.specs.Checked.{Checked, Meant, good, bad, both, meant, faults, also, known_all, known_map, ◌and_then◌, unless, onto_list}
 use Rattle.query_names.specs.Expressions.{resolve_collation}
@@ -109,7 +110,7 @@ item_found f xs i x found y lt is h =
 
 -- ---- CREATE INDEX
 
-module _ (finds : FindsListed) (names : NamesListed) (rows_at : ℕ → List (ℤ × List Value)) (tables : List Table) (db : Database) (lists : Lists rows_at tables db) (d : IndexDefinition) where
+module _ (finds : FindsListed) (names : NamesListed) (rows_at : ℕ → List (ℤ × List Value)) (l : Listed) (db : Database) (lists : Lists rows_at l db) (d : IndexDefinition) where
   abbrev index_over : List (ℕ × Collation) → Object
   index_over ks = AnIndex (record { table = folded d.table; is_unique = d.is_unique; is_automatic = false; columns = ks })
 
@@ -117,13 +118,13 @@ module _ (finds : FindsListed) (names : NamesListed) (rows_at : ℕ → List (�
   placed o = unless (is_reserved d.name) Misuse (unless (is_some (object db d.name)) Exists (known_map (with_object db d.name) o))
 
   -- what stands after ON
-  on_table : (t : Table) → table_named d.table tables ≡ Some t → object db d.table ≡ Some (ATable (with_rows t (rows_at t.root)))
-  on_table t named = subst (λ (found : Option Table). MatchOption found (IsNoTable (object db d.table)) (λ t. object db d.table ≡ Some (ATable (with_rows t (rows_at t.root))))) named (finds rows_at tables db d.table lists)
+  on_table : (t : Table) → table_named d.table l.tables ≡ Some t → object db d.table ≡ Some (ATable (with_rows t (rows_at t.root)))
+  on_table t named = subst (λ (found : Option Table). MatchOption found (IsNoTable l d.table (object db d.table)) (λ t. object db d.table ≡ Some (ATable (with_rows t (rows_at t.root))))) named (finds rows_at l db d.table lists)
 
-  on_none : table_named d.table tables ≡ None → IsNoTable (object db d.table)
-  on_none none = subst (λ (found : Option Table). MatchOption found (IsNoTable (object db d.table)) (λ t. object db d.table ≡ Some (ATable (with_rows t (rows_at t.root))))) none (finds rows_at tables db d.table lists)
+  on_none : table_named d.table l.tables ≡ None → IsNoTable l d.table (object db d.table)
+  on_none none = subst (λ (found : Option Table). MatchOption found (IsNoTable l d.table (object db d.table)) (λ t. object db d.table ≡ Some (ATable (with_rows t (rows_at t.root))))) none (finds rows_at l db d.table lists)
 
-  made_on : (t : Table) → table_named d.table tables ≡ Some t → index_made (object db d.table) d ≡ known_map index_over (keys_known t d)
+  made_on : (t : Table) → table_named d.table l.tables ≡ Some t → index_made (object db d.table) d ≡ known_map index_over (keys_known t d)
   made_on t named = ap (λ o. index_made o d) (on_table t named)
 
   nothing : (found : Option Object) → is_some found ≡ false → found ≡ None
@@ -136,12 +137,12 @@ module _ (finds : FindsListed) (names : NamesListed) (rows_at : ℕ → List (�
       ap (λ b. unless b Misuse (unless (is_some taken) Exists (known_map (with_object db d.name) (good o)))) free
       ∙ ap (λ t. unless false Misuse (unless (is_some t) Exists (known_map (with_object db d.name) (good o)))) fresh
 
-  pub makes : (t : Table) (columns : List IndexColumn) → IsIndexOn tables d t columns → create db (new.Index d) ≡ good (with_object db d.name (index_over (map key_of columns)))
+  pub makes : (t : Table) (columns : List IndexColumn) → IsIndexOn l d t columns → create db (new.Index d) ≡ good (with_object db d.name (index_over (map key_of columns)))
   makes t columns is =
       ap (λ b. unless b Misuse (placed (index_made (object db d.table) d))) is.once
       ∙ (ap (λ k. unless false Misuse (placed k)) (made_on t is.on ∙ ap (known_map index_over) is.known)
       ∙ ap (unless false Misuse) (is_added (index_over (map key_of columns)) (is_reserved d.name) (object db d.name) is.free
-      (nothing (object db d.name) (names rows_at tables db d.name lists ∙ is.new))))
+      (nothing (object db d.name) (names rows_at l db d.name lists ∙ is.new))))
 
   -- ---- refusals
 
@@ -168,28 +169,35 @@ module _ (finds : FindsListed) (names : NamesListed) (rows_at : ℕ → List (�
       onto : (k : Checked B) → Has k r → Has (also rs k) r
       onto (Meant y ss) h = record { among = Contains-append_right rs ss r h.among }
 
-  missing_table : table_named d.table tables ≡ None → Has (index_made (object db d.table) d) NoSuch
+  missing_table : table_named d.table l.tables ≡ None → Has (index_made (object db d.table) d) NoSuch
   missing_table none = by_object (object db d.table) (on_none none)
     where
       no_such : {A : Type 0} (k : Checked A) (o : Object) → Has (k and_then λ _. bad o NoSuch) NoSuch
       no_such k o = later k (λ _. bad o NoSuch) NoSuch (record { among = (0, omega arith, refl) })
 
-      by_object : (found : Option Object) → IsNoTable found → Has (index_made found d) NoSuch
-      by_object found (inl is) = subst (λ (o : Option Object). Has (index_made o d) NoSuch) (sym is) (no_such (known_all (map resolve_collation (filter_map (λ c. c.collation) d.columns))) (index_over []))
-      by_object found (inr (i, is)) = subst (λ (o : Option Object). Has (index_made o d) NoSuch) (sym is) (no_such (known_all (map resolve_collation (filter_map (λ c. c.collation) d.columns))) (index_over []))
+      no_source : (found : Option Object) → IsNoSource found → Has (index_made found d) NoSuch
+      no_source found (inl is) = subst (λ (o : Option Object). Has (index_made o d) NoSuch) (sym is) (no_such (known_all (map resolve_collation (filter_map (λ c. c.collation) d.columns))) (index_over []))
+      no_source found (inr (i, is)) = subst (λ (o : Option Object). Has (index_made o d) NoSuch) (sym is) (no_such (known_all (map resolve_collation (filter_map (λ c. c.collation) d.columns))) (index_over []))
+
+      by_object : (found : Option Object) → IsNoTable l d.table found → Has (index_made found d) NoSuch
+      by_object found = by_view (view_named d.table l.views)
+        where
+          by_view : (view : Option View) → MatchOption view (IsNoSource found) (λ v. found ≡ Some (AView (as_view v))) → Has (index_made found d) NoSuch
+          by_view None none = no_source found none
+          by_view (Some v) is = subst (λ (o : Option Object). Has (index_made o d) NoSuch) (sym is) (no_such (known_all (map resolve_collation (filter_map (λ c. c.collation) d.columns))) (index_over []))
 
   has_so : (r s : Refusal) → r ≡ s → Has (create db (new.Index d)) s → Contains (faults (create db (new.Index d))) r
   has_so r s e h = subst (Contains (faults (create db (new.Index d)))) (sym e) h.among
 
-  pub refuses : (r : Refusal) → IsIndexRefusal tables d r → Contains (faults (create db (new.Index d))) r
+  pub refuses : (r : Refusal) → IsIndexRefusal l d r → Contains (faults (create db (new.Index d))) r
   refuses r (inl (e, h)) = has_so r Misuse e (unless_later _ Misuse Misuse _ (unless_has (is_reserved d.name) Misuse _ h))
-  refuses r (inr (inl (e, h))) = has_so r Exists e (unless_later _ Misuse Exists _ (unless_later (is_reserved d.name) Misuse Exists _ (unless_has (is_some (object db d.name)) Exists _ (names rows_at tables db d.name lists ∙ h))))
+  refuses r (inr (inl (e, h))) = has_so r Exists e (unless_later _ Misuse Exists _ (unless_later (is_reserved d.name) Misuse Exists _ (unless_has (is_some (object db d.name)) Exists _ (names rows_at l db d.name lists ∙ h))))
   refuses r (inr (inr (inl (e, h)))) = has_so r Misuse e (unless_has (is_doubled (names_in d.columns)) Misuse _ h)
   refuses r (inr (inr (inr (inl (e, none))))) = has_so r NoSuch e (in_made NoSuch (missing_table none))
   refuses r (inr (inr (inr (inr (t, named, has))))) = (in_made r (subst (λ (k : Checked Object). Has k r) (sym (made_on t named)) (map_has index_over (keys_known t d) r (record { among = has })))).among
 
 pub makes_index : FindsListed → NamesListed → MakesListedIndex
-makes_index finds names rows_at tables db d t columns lists is = makes finds names rows_at tables db lists d t columns is
+makes_index finds names rows_at l db d t columns lists is = makes finds names rows_at l db lists d t columns is
 
 pub refuses_index : FindsListed → NamesListed → RefusesIndexAsDefined
-refuses_index finds names rows_at tables db d r lists why = refuses finds names rows_at tables db lists d r why
+refuses_index finds names rows_at l db d r lists why = refuses finds names rows_at l db lists d r why

@@ -1,34 +1,36 @@
 -- One source after another.
-use Rattle.std.proofs.Common.{◌≡◌, refl, sym, ap, subst, ◌∙◌, ◌⊎◌, inl, inr, ℕ, zero, suc, ◌<◌, ◌≤◌, ◌+◌, Bool, true, false, not, ◌||◌, List, [], ◌∷◌, ◌++◌, length, drop, take, map, get_or, Option, Some, None, append_assoc, arith}
-use Rattle.std.specs.Prelude.{OnOk, Result, Ok, Err, option_map, unwrap_or}
+use Rattle.std.proofs.Common.{◌≡◌, refl, sym, ap, subst, ◌∙◌, ℕ, zero, suc, ◌<◌, ◌≤◌, ◌+◌, Bool, true, false, not, ◌||◌, List, [], ◌∷◌, ◌++◌, length, drop, take, map, get_or, Option, Some, None, append_assoc, arith}
+use Rattle.std.specs.Prelude.{OnOk, Result, Ok, Err, is_some, option_map}
 use Rattle.std.specs.List.{find}
 use Rattle.std.specs.Option.{option_eq}
 use Rattle.std.proofs.Math.Dec.{eqb, eqb-suc-suc, eqb-suc-zero, eqb-zero-suc}
 use Rattle.query_names.proofs.ColumnNames.{same_folded}
+use Rattle.query_names.proofs.PartRefusals.{mapped}
 use Rattle.std.proofs.lemmas.List.{append-nil, at_drop_more, length-map, take_all, take_more}
 use Rattle.std.proofs.lemmas.List.Folds.{list_any-append}
 use Rattle.sqlval.specs.Names.{folded}
-use Rattle.sqlval.specs.Refusals.{Refusal, NoSuch, refusal_of}
+use Rattle.sqlval.specs.Refusals.{Refusal}
 use Rattle.sqlval.specs.declared.fault.Fault.{Fault}
-use Rattle.sqlval.specs.declared.fault.Fault.TheVariants.{Memory}
 use Rattle.sql_syntax.specs.Tree.{Tree}
 use Rattle.sql_syntax.specs.declared.query.Join.{Join}
 use Rattle.sql_syntax.specs.declared.query.JoinKind.{JoinKind}
 use Rattle.sql_syntax.specs.declared.query.Source.{Source}
 use Rattle.catalog.specs.Database.{Name}
-use Rattle.catalog.specs.Listed.{as_column, own_column, table_named}
+use Rattle.catalog.specs.Listed.{Listed, as_column, own_column, table_named, view_named}
 use Rattle.catalog.specs.declared.tables.Column.{Column}
 use Rattle.catalog.specs.declared.tables.Table.{Table}
-use Rattle.query_names.specs.Bound.{EachOf, IsFaultOf, columns_seen, looked_up, source_seen, column_seen}
-use Rattle.query_names.specs.Checked.{Checked, Meant, meant, faults, noted, also, known_map, ◌and_then◌}
+use Rattle.catalog.specs.declared.tables.View.{View}
+use Rattle.query_names.specs.Bound.{EachOf, IsFaultOf, columns_seen, column_seen}
+use Rattle.query_names.specs.Checked.{Checked, Meant, good, meant, faults, noted, also, known_map, ◌and_then◌}
 use Rattle.query_names.specs.Queries.{Lookup, resolve_join, resolve_sources, source_name}
 use Rattle.query_names.specs.Scopes.{column_scope, source_of, with_rowid_at}
-use Rattle.query_names.specs.declared.queries.BoundSource.{BoundSource}
+use Rattle.query_names.specs.declared.queries.Origin.{Origin}
+use Rattle.query_names.specs.declared.queries.Origin.TheVariants as origin
 use Rattle.query_names.specs.declared.reading.Condition.{Condition}
 use Rattle.query_names.specs.declared.scope.ScopeColumn.{ScopeColumn}
 use Rattle.query_names.specs.declared.scope.ScopeSource.{ScopeSource}
-use Rattle.query_bind.specs.Named.{AreTables, ArePlaced, IsPlaced, look_among, onto_source, onto_sources, place_seen, resolve_source}
-use Rattle.query_bind.proofs.Chains.{in_front}
+use Rattle.query_bind.specs.Named.{AreTables, ArePlaced, IsOriginOf, IsPlaced, onto_source, onto_sources, place_seen, resolve_source, source_joined}
+use Rattle.query_bind.proofs.Chains.{in_front, refused_first, then_good}
 
 -- a table's columns, as their own type has them
 abbrev pub all_seen : Option ℕ → List Column → List ScopeColumn
@@ -82,47 +84,41 @@ ends scope joined = ap (λ js. Meant (scope, js) []) (append-nil joined)
 
 -- ---- one source
 
--- what a source's table makes of it
+-- what a source makes of its condition
 abbrev of_condition : List ScopeSource → Name → List (Name × Condition) → Checked Condition → Checked (List ScopeSource × List (Name × Condition))
 of_condition here name joined k = known_map (λ c. (here, joined ++ (name, c) ∷ [])) k
 
-at_table : (joined : List (Name × Condition)) (before : List ScopeSource) (kind : JoinKind) (s : Source) (on : Option Tree) (found : Option Table) (t : Table) → found ≡ Some t
-    → onto_source joined (noted (looked_up found) and_then λ k. known_map (λ c. (before ++ source_of (source_name s) k ∷ [], (folded s.name, c))) (resolve_join (before ++ source_of (source_name s) k ∷ []) kind on))
-    ≡ of_condition (before ++ source_seen (unwrap_or s.alias s.name) t ∷ []) (folded s.name) joined (resolve_join (before ++ source_seen (unwrap_or s.alias s.name) t ∷ []) kind on)
-at_table joined before kind s on found t h =
-    ap (λ o. onto_source joined (noted (looked_up o) and_then λ k. known_map (λ c. (before ++ source_of (source_name s) k ∷ [], (folded s.name, c))) (resolve_join (before ++ source_of (source_name s) k ∷ []) kind on))) h
-    ∙ twice (resolve_join (before ++ source_seen (unwrap_or s.alias s.name) t ∷ []) kind on)
+pub source_made : (joined : List (Name × Condition)) (before : List ScopeSource) (kind : JoinKind) (s : Source) (on : Option Tree) (found : Checked (List ScopeColumn × Bool))
+    → onto_source joined (source_joined before kind s on found)
+    ≡ of_condition (before ++ source_of (source_name s) found ∷ []) (folded s.name) joined (resolve_join (before ++ source_of (source_name s) found ∷ []) kind on)
+source_made joined before kind s on found = twice (before ++ source_of (source_name s) found ∷ []) (resolve_join (before ++ source_of (source_name s) found ∷ []) kind on)
   where
-    twice : (k : Checked Condition) → onto_source joined (also [] (known_map (λ c. (before ++ source_seen (unwrap_or s.alias s.name) t ∷ [], (folded s.name, c))) k))
-        ≡ of_condition (before ++ source_seen (unwrap_or s.alias s.name) t ∷ []) (folded s.name) joined k
-    twice (Meant c rs) = refl
+    twice : (here : List ScopeSource) (k : Checked Condition) → onto_source joined (known_map (λ c. (here, (folded s.name, c))) k) ≡ of_condition here (folded s.name) joined k
+    twice here (Meant c rs) = refl
 
-pub source_known : (tables : List Table) (joined : List (Name × Condition)) (before : List ScopeSource) (kind : JoinKind) (s : Source) (on : Option Tree) (t : Table) → table_named s.name tables ≡ Some t
-    → onto_source joined (resolve_source (look_among tables) before kind s on)
-    ≡ of_condition (before ++ source_seen (unwrap_or s.alias s.name) t ∷ []) (folded s.name) joined (resolve_join (before ++ source_seen (unwrap_or s.alias s.name) t ∷ []) kind on)
-source_known tables joined before kind s on t h = at_table joined before kind s on (table_named s.name tables) t h
+pub condition_refused : (joined : List (Name × Condition)) (before here : List ScopeSource) (kind : JoinKind) (s : Source) (on : Option Tree) (found : Checked (List ScopeColumn × Bool)) (fault : Fault)
+    → here ≡ before ++ source_of (source_name s) found ∷ [] → IsFaultOf (faults (resolve_join here kind on)) fault → IsFaultOf (faults (onto_source joined (source_joined before kind s on found))) fault
+condition_refused joined before here kind s on found fault is refused =
+    subst (λ k. IsFaultOf (faults k) fault) (sym (source_made joined before kind s on found ∙ ap (λ x. of_condition x (folded s.name) joined (resolve_join x kind on)) (sym is)))
+    (mapped (λ c. (here, joined ++ (folded s.name, c) ∷ [])) (resolve_join here kind on) fault refused)
 
-pub condition_refused : (tables : List Table) (joined : List (Name × Condition)) (before here : List ScopeSource) (kind : JoinKind) (s : Source) (on : Option Tree) (t : Table) (fault : Fault)
-    → table_named s.name tables ≡ Some t → here ≡ before ++ source_seen (unwrap_or s.alias s.name) t ∷ [] → IsFaultOf (faults (resolve_join here kind on)) fault
-    → IsFaultOf (faults (onto_source joined (resolve_source (look_among tables) before kind s on))) fault
-condition_refused tables joined before here kind s on t fault h is refused =
-    subst (λ k. IsFaultOf (faults k) fault) (sym (source_known tables joined before kind s on t h ∙ ap (λ x. of_condition x (folded s.name) joined (resolve_join x kind on)) (sym is)))
-    (kept (resolve_join here kind on) refused)
-  where
-    kept : (k : Checked Condition) → IsFaultOf (faults k) fault → IsFaultOf (faults (of_condition here (folded s.name) joined k)) fault
-    kept (Meant c rs) r = r
+pub condition_known : (joined : List (Name × Condition)) (before here : List ScopeSource) (kind : JoinKind) (s : Source) (on : Option Tree) (found : Checked (List ScopeColumn × Bool)) (c : Condition)
+    → here ≡ before ++ source_of (source_name s) found ∷ [] → resolve_join here kind on ≡ Meant c []
+    → onto_source joined (source_joined before kind s on found) ≡ Meant (here, joined ++ (folded s.name, c) ∷ []) []
+condition_known joined before here kind s on found c is known =
+    source_made joined before kind s on found
+    ∙ (ap (λ x. of_condition x (folded s.name) joined (resolve_join x kind on)) (sym is) ∙ ap (of_condition here (folded s.name) joined) known)
 
-pub source_missing : (tables : List Table) (joined : List (Name × Condition)) (before : List ScopeSource) (kind : JoinKind) (s : Source) (on : Option Tree) (fault : Fault)
-    → (fault ≡ Memory) ⊎ (refusal_of fault ≡ NoSuch) × (table_named s.name tables ≡ None)
-    → IsFaultOf (faults (onto_source joined (resolve_source (look_among tables) before kind s on))) fault
-source_missing tables joined before kind s on fault (inl m) = inl m
-source_missing tables joined before kind s on fault (inr (why, h)) =
-    subst (λ o. IsFaultOf (faults (onto_source joined (noted (looked_up o) and_then λ k. known_map (λ c. (before ++ source_of (source_name s) k ∷ [], (folded s.name, c))) (resolve_join (before ++ source_of (source_name s) k ∷ []) kind on)))) fault) (sym h)
-    (first (resolve_join (before ++ source_of (source_name s) (looked_up None) ∷ []) kind on))
-  where
-    first : (k : Checked Condition)
-        → IsFaultOf (faults (onto_source joined (also (NoSuch ∷ []) (known_map (λ c. (before ++ source_of (source_name s) (looked_up None) ∷ [], (folded s.name, c))) k)))) fault
-    first (Meant c rs) = inr (0, omega arith, sym why)
+-- a source that is looked up and isn't refused
+pub source_known : (look : Lookup) (joined : List (Name × Condition)) (before : List ScopeSource) (kind : JoinKind) (s : Source) (on : Option Tree) (x : List ScopeColumn × Bool) → look s.name ≡ Meant x []
+    → onto_source joined (resolve_source look before kind s on) ≡ onto_source joined (source_joined before kind s on (good x))
+source_known look joined before kind s on x h =
+    ap (onto_source joined) (then_good (noted (look s.name)) (source_joined before kind s on) (good x) (ap noted h))
+
+pub source_refused : (look : Lookup) (joined : List (Name × Condition)) (before : List ScopeSource) (kind : JoinKind) (s : Source) (on : Option Tree) (fault : Fault) → IsFaultOf (faults (look s.name)) fault
+    → IsFaultOf (faults (onto_source joined (resolve_source look before kind s on))) fault
+source_refused look joined before kind s on fault h =
+    mapped (λ (x : List ScopeSource × (Name × Condition)). (x.0, joined ++ x.1 ∷ [])) (resolve_source look before kind s on) fault (refused_first (noted (look s.name)) (source_joined before kind s on) fault h)
 
 -- ---- a source, and the rest
 
@@ -177,17 +173,24 @@ joined_refused look before j js joined fault h = of_look (look j.source.name) h
     of_look (Meant x rs) e =
         of_join (before ++ source_of (source_name j.source) (Meant x rs) ∷ []) rs (resolve_join (before ++ source_of (source_name j.source) (Meant x rs) ∷ []) j.kind j.condition) e
 
--- ---- the sources are tables, each at its place
+-- ---- the sources are known, and each is placed
 
-pub table_added : (scope : List ScopeSource) (name : Name) (t : Table) → AreTables scope → AreTables (scope ++ source_seen name t ∷ [])
-table_added scope name t h = (
-  list_any-append (λ s. s.needs_name) scope (source_seen name t ∷ []) ∙ ap (λ b. b || false) h.0,
-  list_any-append (λ s. not s.is_known) scope (source_seen name t ∷ []) ∙ ap (λ b. b || false) h.1,
+pub source_added : (scope : List ScopeSource) (name : Name) (x : List ScopeColumn × Bool) → AreTables scope → AreTables (scope ++ source_of name (good x) ∷ [])
+source_added scope name x h = (
+  list_any-append (λ s. s.needs_name) scope (source_of name (good x) ∷ []) ∙ ap (λ b. b || false) h.0,
+  list_any-append (λ s. not s.is_known) scope (source_of name (good x) ∷ []) ∙ ap (λ b. b || false) h.1,
 )
 
--- a table has a name, whichever letters are large
+-- a table or a view has a name, whichever letters are large
 same_table : (name : Name) (tables : List Table) → table_named (folded name) tables ≡ table_named name tables
 same_table name tables = ap (λ p. find p tables) (λ i t. same_folded t.name name i)
+
+same_view : (name : Name) (views : List View) → view_named (folded name) views ≡ view_named name views
+same_view name views = ap (λ p. find p views) (λ i v. same_folded v.definition.name name i)
+
+folded_origin : (l : Listed) (name : Name) (o : Origin) → IsOriginOf l name o → IsOriginOf l (folded name) o
+folded_origin l name (origin.Tree place) h = ap (option_map place_seen) (same_table name l.tables) ∙ h
+folded_origin l name origin.View h = (same_table name l.tables ∙ h.0, ap is_some (same_view name l.views) ∙ h.1)
 
 pub each_more : {A B : Type 0} (P : A → B → Type 0) (xs : List A) (ys : List B) (x : A) (y : B) → EachOf P xs ys → P x y → EachOf P (xs ++ x ∷ []) (ys ++ y ∷ [])
 each_more P [] [] x y h p = (p, tt)
@@ -215,13 +218,12 @@ pub next_refused : (look : Lookup) (before : List ScopeSource) (js : List Join) 
 next_refused look before js i j joined fault lt is h =
     subst (λ k. IsFaultOf (faults k) fault) (sym (next_source look before js i j joined lt is)) (joined_refused look before j (drop (i + 1) js) joined fault h)
 
-pub placed_more : (tables : List Table) (joined : List (Name × Condition)) (places : List BoundSource) (name : Name) (t : Table) (c : Condition) → table_named name tables ≡ Some t
-    → ArePlaced tables joined places → ArePlaced tables (joined ++ (folded name, c) ∷ []) (places ++ place_seen t ∷ [])
-placed_more tables joined places name t c h placed =
-    each_more (IsPlaced tables) joined places (folded name, c) (place_seen t) placed (ap (option_map place_seen) (same_table name tables ∙ h))
+placed_more : (l : Listed) (joined : List (Name × Condition)) (origins : List Origin) (name : Name) (o : Origin) (c : Condition) → IsOriginOf l name o
+    → ArePlaced l joined origins → ArePlaced l (joined ++ (folded name, c) ∷ []) (origins ++ o ∷ [])
+placed_more l joined origins name o c h placed = each_more (IsPlaced l) joined origins (folded name, c) o placed (folded_origin l name o h)
 
-pub placed_then : {X E : Type 0} (result : Result X E) (tables : List Table) (joined after : List (Name × Condition)) (places more : List BoundSource) (name : Name) (t : Table) (c : Condition) → table_named name tables ≡ Some t
-    → OnOk result (after ≡ joined ++ (folded name, c) ∷ []) → OnOk result (more ≡ places ++ place_seen t ∷ []) → ArePlaced tables joined places → OnOk result (ArePlaced tables after more)
-placed_then (Ok x) tables joined after places more name t c h hj hp placed =
-    subst (λ js. ArePlaced tables js more) (sym hj) (subst (λ ps. ArePlaced tables (joined ++ (folded name, c) ∷ []) ps) (sym hp) (placed_more tables joined places name t c h placed))
-placed_then (Err e) tables joined after places more name t c h hj hp placed = tt
+pub placed_then : {X E : Type 0} (result : Result X E) (l : Listed) (joined after : List (Name × Condition)) (origins more : List Origin) (name : Name) (o : Origin) (c : Condition) → IsOriginOf l name o
+    → OnOk result (after ≡ joined ++ (folded name, c) ∷ []) → OnOk result (more ≡ origins ++ o ∷ []) → ArePlaced l joined origins → OnOk result (ArePlaced l after more)
+placed_then (Ok x) l joined after origins more name o c h hj hp placed =
+    subst (λ js. ArePlaced l js more) (sym hj) (subst (λ ps. ArePlaced l (joined ++ (folded name, c) ∷ []) ps) (sym hp) (placed_more l joined origins name o c h placed))
+placed_then (Err e) l joined after origins more name o c h hj hp placed = tt

@@ -7,5 +7,6 @@ pub mod Placed
 pub mod Quiet
 pub mod Readings
 pub mod TermLists
+pub mod ViewColumns
 pub mod Whole
 pub mod SetColumns

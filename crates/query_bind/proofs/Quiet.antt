@@ -1,13 +1,10 @@
 -- No refusal of a query comes from a disk.
-use Rattle.std.proofs.Common.{◌≡◌, refl, sym, ap, ◌∙◌, inl, inr, ℕ, zero, suc, Bool, true, false, not, ◌&&◌, ◌||◌, ◌==◌, if◌then◌else◌, List, [], ◌∷◌, ◌++◌, map, length, Option, Some, None}
-use Rattle.std.specs.Prelude.{IfErr, Result, Ok, Err, codes, nat_lt, slice_get, unwrap_or}
+use Rattle.std.proofs.Common.{◌≡◌, refl, ap, ℕ, zero, suc, Bool, true, false, not, ◌&&◌, ◌||◌, ◌==◌, if◌then◌else◌, List, [], ◌∷◌, ◌++◌, map, length, Option, Some, None}
+use Rattle.std.specs.Prelude.{IfErr, Result, Ok, Err, nat_lt, slice_get, unwrap_or}
 use Rattle.sqlval.specs.Names.{folded, is_same_name}
-use Rattle.sqlval.specs.declared.collation.Collation.TheVariants.{Binary, NoCase, RTrim}
-use Rattle.std.specs.List.{list_any, Contains}
-use Rattle.std.proofs.lemmas.Bool.{false≢true}
-use Rattle.std.proofs.lemmas.List.Folds.{list_any-append, list_any_at}
+use Rattle.std.specs.List.{list_any}
 use Rattle.sqlval.specs.Faults.{IsNotDiskFault}
-use Rattle.sqlval.specs.Refusals.{Refusal, Io, Full, NoSuch, Misuse, TooLong, refusal_of}
+use Rattle.sqlval.specs.Refusals.{Refusal, NoSuch, Misuse, TooLong}
 use Rattle.sqlval.specs.declared.fault.Fault.{Fault}
 use Rattle.sqlval.specs.declared.value.Value.TheVariants.{Null}
 use Rattle.sql_syntax.specs.Tree as tree
@@ -20,29 +17,28 @@ use Rattle.sql_syntax.specs.declared.query.Query.{Query}
 use Rattle.sql_syntax.specs.declared.query.ResultItem.{ResultItem}
 use Rattle.sql_syntax.specs.declared.query.ResultItem.TheVariants.{All, AllOf, Of}
 use Rattle.catalog.specs.Database.{Name}
-use Rattle.catalog.specs.Listed.{table_named}
+use Rattle.catalog.specs.Database as database
+use Rattle.catalog.specs.Listed.{Listed, as_view, table_named, view_named}
 use Rattle.catalog.specs.declared.tables.Table.{Table}
-use Rattle.query_names.specs.Bound.{IsFaultOf, looked_up}
-use Rattle.query_names.specs.Checked.{Checked, Meant, good, faults, noted, also, both, all_three, known_map, known_all, ◌and_then◌, unless, the_one, bad}
-use Rattle.query_names.specs.Expressions.{called, called_star, count_of, first_of, function_named, is_aggregate, resolve, resolve_all, resolve_collation, two_sided}
-use Rattle.query_names.specs.declared.functions.Called.{Called}
-use Rattle.query_names.specs.declared.functions.Called.TheVariants.{OfFunction, OfAggregate}
-use Rattle.query_names.specs.Queries.{as_named, as_reading, is_open_item, is_own, resolve_filter, resolve_item, resolve_items, resolve_join, resolve_order, resolve_query, resolve_sources, result_column, source_name, sources_of, stars_from}
-use Rattle.query_names.specs.Scopes.{fits, found, source_of}
+use Rattle.catalog.specs.declared.tables.View.{View}
+use Rattle.query_names.specs.Known.{columns_in, columns_listed}
+use Rattle.query_names.specs.Checked.{Checked, good, faults, noted, known_map, known_all, ◌and_then◌, unless, bad}
+use Rattle.query_names.specs.Expressions.{resolve}
+use Rattle.query_names.specs.Queries.{Lookup, as_named, as_reading, is_open_item, is_own, resolve_filter, resolve_item, resolve_items, resolve_join, resolve_order, resolve_query, resolve_sources, result_column, source_name, sources_of, stars_from}
+use Rattle.query_names.specs.Scopes.{place_of, places_from, source_of}
+use Rattle.query_names.specs.Views.{renamed, unless_around, view_columns}
 use Rattle.query_names.specs.declared.reading.Condition.{Condition}
 use Rattle.query_names.specs.declared.reading.Condition.TheVariants.{Where, OrNulls}
 use Rattle.query_names.specs.declared.reading.Reading.{Reading}
 use Rattle.query_names.specs.declared.scope.ScopeColumn.{ScopeColumn}
 use Rattle.query_names.specs.Named.{Names, NamesBy}
 use Rattle.query_names.specs.declared.scope.ScopeSource.{ScopeSource}
-use Rattle.query_terms.specs.Terms.{Term, Terms, Const, Apply, Total, One, Two, Collate, In, Between, Raise, More}
-use Rattle.query_terms.specs.declared.tree.OneSided.TheVariants.{Negated, Not}
-use Rattle.query_terms.specs.declared.tree.Aggregate.TheVariants.{CountAll, Count, Sum, Min, Max}
+use Rattle.query_terms.specs.Terms.{Term, Const}
 use Rattle.query_bind.specs.Assigned.{set_known, sets_known}
 use Rattle.sql_syntax.specs.declared.change.Assignment.{Assignment}
 use Rattle.catalog.specs.declared.tables.Column.{Column}
-use Rattle.query_bind.specs.Named.{look_among, order_given, orders_checked, resolve_clauses}
-use Rattle.query_names.proofs.QuietNames.{Quiet, is_loud, not_disk, of_also, of_both, of_collation, of_known, of_map, of_one, of_then, of_three, of_tree, of_unless, quiet_or}
+use Rattle.query_bind.specs.Named.{order_given, orders_checked, resolve_clauses}
+use Rattle.query_names.proofs.QuietNames.{Quiet, is_loud, not_disk, of_both, of_known, of_map, of_one, of_then, of_tree, of_unless, quiet_or}
 use Rattle.query_bind.proofs.Readings.{astray, mixed, three}
 
 -- ---- queries
@@ -53,23 +49,19 @@ of_join scope join.Left (Some e) = of_map OrNulls (resolve false scope e) (of_tr
 of_join scope join.Comma (Some e) = of_map Where (resolve false scope e) (of_tree false scope e)
 of_join scope join.Inner (Some e) = of_map Where (resolve false scope e) (of_tree false scope e)
 
-of_looked : (t : Option Table) → Quiet (looked_up t)
-of_looked None = refl
-of_looked (Some t) = refl
+abbrev rest_of : Lookup → Join → List Join → List ScopeSource → Checked (List ScopeSource × List (Name × Condition))
+rest_of look j js here = resolve_join here j.kind j.condition and_then λ c. known_map (λ rest. (rest.0, (folded j.source.name, c) ∷ rest.1)) (resolve_sources look here js)
 
-abbrev rest_of : List Table → Join → List Join → List ScopeSource → Checked (List ScopeSource × List (Name × Condition))
-rest_of tables j js here = resolve_join here j.kind j.condition and_then λ c. known_map (λ rest. (rest.0, (folded j.source.name, c) ∷ rest.1)) (resolve_sources (look_among tables) here js)
-
-of_sources : (tables : List Table) (js : List Join) (before : List ScopeSource) → Quiet (resolve_sources (look_among tables) before js)
-of_sources tables [] before = refl
-of_sources tables (j ∷ js) before =
-    of_then (noted (look_among tables j.source.name)) (λ known. rest_of tables j js (before ++ source_of (source_name j.source) known ∷ [])) (of_looked (table_named j.source.name tables))
+of_sources : (look : Lookup) → ((name : Name) → Quiet (look name)) → (js : List Join) (before : List ScopeSource) → Quiet (resolve_sources look before js)
+of_sources look each [] before = refl
+of_sources look each (j ∷ js) before =
+    of_then (noted (look j.source.name)) (λ known. rest_of look j js (before ++ source_of (source_name j.source) known ∷ [])) (each j.source.name)
     (λ known.
     of_then (resolve_join (before ++ source_of (source_name j.source) known ∷ []) j.kind j.condition)
-    (λ c. known_map (λ rest. (rest.0, (folded j.source.name, c) ∷ rest.1)) (resolve_sources (look_among tables) (before ++ source_of (source_name j.source) known ∷ []) js))
+    (λ c. known_map (λ rest. (rest.0, (folded j.source.name, c) ∷ rest.1)) (resolve_sources look (before ++ source_of (source_name j.source) known ∷ []) js))
     (of_join (before ++ source_of (source_name j.source) known ∷ []) j.kind j.condition)
-    (λ c. of_map (λ rest. (rest.0, (folded j.source.name, c) ∷ rest.1)) (resolve_sources (look_among tables) (before ++ source_of (source_name j.source) known ∷ []) js)
-    (of_sources tables js (before ++ source_of (source_name j.source) known ∷ []))))
+    (λ c. of_map (λ rest. (rest.0, (folded j.source.name, c) ∷ rest.1)) (resolve_sources look (before ++ source_of (source_name j.source) known ∷ []) js)
+    (of_sources look each js (before ++ source_of (source_name j.source) known ∷ []))))
 
 of_filter : (scope : List ScopeSource) (condition : Option Tree) → Quiet (resolve_filter scope condition)
 of_filter scope None = refl
@@ -127,15 +119,51 @@ of_clauses scope joined q =
     (λ keys. of_then (resolve_items scope q.results) (λ results. read scope joined q filter keys results) (of_items scope q.results)
     (λ results. of_reading 0 q (list_any (is_open_item scope) q.results) joined filter keys results (map (order_given scope q.results results) q.order) (of_orders scope q.results results q.order))))
 
-pub of_query : (tables : List Table) (q : Query) → Quiet (resolve_query (look_among tables) [] q)
-of_query tables q =
-    of_then (resolve_sources (look_among tables) [] (sources_of q)) (λ s. resolve_clauses s.0 s.1 q) (of_sources tables (sources_of q) []) (λ s. of_clauses s.0 s.1 q)
+of_query : (look : Lookup) → ((name : Name) → Quiet (look name)) → (q : Query) → Quiet (resolve_query look [] q)
+of_query look each q =
+    of_then (resolve_sources look [] (sources_of q)) (λ s. resolve_clauses s.0 s.1 q) (of_sources look each (sources_of q) []) (λ s. of_clauses s.0 s.1 q)
+
+-- ---- tables and views
+
+of_listed : (view : View → Checked (List ScopeColumn × Bool)) → ((v : View) → Quiet (view v)) → (t : Option Table) (v : Option View) → Quiet (columns_listed view t v)
+of_listed view each (Some t) v = refl
+of_listed view each None (Some v) = each v
+of_listed view each None None = refl
+
+of_around : (b : Bool) (k : Checked (List ScopeColumn × Bool)) → Quiet k → Quiet (if b then bad ([], false) Misuse else k)
+of_around true k h = refl
+of_around false k h = h
+
+-- the columns under a view's list
+abbrev under_list : database.View → Reading → Checked (List ScopeColumn × Bool)
+under_list v q = unless (nat_lt 0 (length v.columns) && not q.is_open && not (length v.columns == length q.columns)) Misuse (good (renamed v.columns q.columns, false))
+
+of_view : (v : database.View) (k : Checked Reading) → Quiet k → Quiet (view_columns v k)
+of_view v k h =
+    of_then k (under_list v) h
+    (λ q. of_unless {A = List ScopeColumn × Bool} (nat_lt 0 (length v.columns) && not q.is_open && not (length v.columns == length q.columns)) Misuse (good (renamed v.columns q.columns, false)) refl refl)
+
+pub of_names : (n : ℕ) (l : Listed) (around : List Name) (name : Name) → Quiet (columns_in n l around name)
+of_names zero l around name =
+    of_listed (λ v. unless_around around name (bad ([], false) TooLong)) (λ v. of_around (list_any (is_same_name name) around) (bad ([], false) TooLong) refl) (table_named name l.tables) (view_named name l.views)
+of_names (suc n) l around name =
+    of_listed (λ v. unless_around around name (view_columns (as_view v) (resolve_query (columns_in n l (folded name ∷ around)) [] v.definition.query)))
+    (λ v. of_around (list_any (is_same_name name) around) (view_columns (as_view v) (resolve_query (columns_in n l (folded name ∷ around)) [] v.definition.query))
+    (of_view (as_view v) (resolve_query (columns_in n l (folded name ∷ around)) [] v.definition.query) (of_query (columns_in n l (folded name ∷ around)) (of_names n l (folded name ∷ around)) v.definition.query)))
+    (table_named name l.tables) (view_named name l.views)
+
+pub of_listed_query : (n : ℕ) (l : Listed) (around : List Name) (q : Query) → Quiet (resolve_query (columns_in n l around) [] q)
+of_listed_query n l around q = of_query (columns_in n l around) (of_names n l around) q
 
 -- rows of expressions
 pub of_rows : (s : List ScopeSource) (rows : List (List Tree)) → Quiet (known_all (map (λ row. known_all (map (resolve false s) row)) rows))
 of_rows s rows = of_known (λ row. known_all (map (resolve false s) row)) rows (λ row. of_known (resolve false s) row (of_tree false s))
 
 -- ---- faults
+
+pub refused_calm : {X A : Type 0} (view : X → A) (k : Checked A) (result : Result X Fault) → Quiet k → NamesBy view k result → IfErr result (λ fault. IsNotDiskFault fault)
+refused_calm view k (Ok x) q is = tt
+refused_calm view k (Err f) q is = not_disk k f q is
 
 -- nor of a WHERE
 pub filter_calm : (scope : List ScopeSource) (condition : Option Tree) (result : Result (Option Term) Fault) → Names (resolve_filter scope condition) result → IfErr result (λ fault. IsNotDiskFault fault)
@@ -147,3 +175,8 @@ pub sets_calm : {X : Type 0} (view : X → List (ℕ × Term)) (columns : List C
 sets_calm view columns scope sets (Ok x) is = tt
 sets_calm view columns scope sets (Err f) is =
     not_disk (sets_known columns scope sets) f (of_known (set_known columns scope) sets (λ a. of_map _ (resolve false scope a.value) (of_tree false scope a.value))) is
+
+-- nor of the places of columns
+pub places_calm : {X : Type 0} (view : X → List ℕ) (s : ScopeSource) (names : List Name) (result : Result X Fault) → NamesBy view (known_all (map (place_of s) names)) result → IfErr result (λ fault. IsNotDiskFault fault)
+places_calm view s names result is =
+    refused_calm view (known_all (map (place_of s) names)) result (of_known (place_of s) names (λ n. of_one (not s.is_known) 0 (places_from 0 n s.columns))) is

@@ -1,8 +1,9 @@
--- The parts of a query, looked up among listed tables (SQL As Understood By SQLite, "SELECT").
-use Rattle.std.specs.Prelude.{◌≡◌, Bool, false, not, ◌||◌, List, [], ◌∷◌, ◌++◌, map, flat_map, length, Option, Some, None, nat_lt, option_map}
+-- The parts of a query, looked up among listed tables and views (SQL As Understood By SQLite, "SELECT").
+use Rattle.std.specs.Prelude.{◌≡◌, ℕ, zero, suc, Bool, true, false, not, ◌||◌, List, [], ◌∷◌, ◌++◌, map, flat_map, length, Option, Some, None, is_some, nat_lt, option_map}
 use Rattle.std.specs.List.{list_any}
 use Rattle.std.specs.Option.{option_or}
 use Rattle.sqlval.specs.Names.{folded}
+use Rattle.sqlval.specs.Refusals.{TooLong}
 use Rattle.sql_syntax.specs.Tree.{Tree}
 use Rattle.sql_syntax.specs.declared.query.FromClause.{FromClause}
 use Rattle.sql_syntax.specs.declared.query.Join.{Join}
@@ -13,16 +14,21 @@ use Rattle.sql_syntax.specs.declared.query.Query.{Query}
 use Rattle.sql_syntax.specs.declared.query.ResultItem.{ResultItem}
 use Rattle.sql_syntax.specs.declared.query.Source.{Source}
 use Rattle.catalog.specs.Database.{Name}
-use Rattle.catalog.specs.Listed.{shape_of, table_named}
+use Rattle.catalog.specs.Listed.{Listed, as_view, shape_of, table_named, view_named}
 use Rattle.catalog.specs.declared.tables.Table.{Table}
-use Rattle.query_names.specs.Bound.{EachOf, looked_up}
-use Rattle.query_names.specs.Checked.{Checked, Meant, good, meant, faults, noted, known_map, known_all, ◌and_then◌}
+use Rattle.catalog.specs.declared.tables.View.{View}
+use Rattle.query_names.specs.Bound.{EachOf}
+use Rattle.query_names.specs.Checked.{Checked, Meant, bad, good, meant, faults, noted, known_map, known_all, ◌and_then◌}
 use Rattle.query_names.specs.Expressions.{resolve}
 use Rattle.query_names.specs.Grouping.{has_total}
+use Rattle.query_names.specs.Known.{columns_in}
 use Rattle.query_names.specs.Named.{IsOutside}
-use Rattle.query_names.specs.Queries.{Lookup, as_reading, is_open_item, plain_name, resolve_filter, resolve_items, resolve_join, resolve_order, source_name}
+use Rattle.query_names.specs.Queries.{Lookup, as_reading, is_open_item, plain_name, resolve_filter, resolve_items, resolve_join, resolve_order, resolve_query, source_name}
 use Rattle.query_names.specs.Scopes.{source_of}
+use Rattle.query_names.specs.Views.{unless_around, view_columns}
 use Rattle.query_names.specs.declared.queries.BoundSource.{BoundSource}
+use Rattle.query_names.specs.declared.queries.Origin.{Origin}
+use Rattle.query_names.specs.declared.queries.Origin.TheVariants as origin
 use Rattle.query_names.specs.declared.reading.Condition.{Condition}
 use Rattle.query_names.specs.declared.reading.Reading.{Reading}
 use Rattle.query_names.specs.declared.scope.ScopeColumn.{ScopeColumn}
@@ -32,21 +38,21 @@ use Rattle.query_bind.specs.declared.querying.Parts.{Parts}
 
 -- ---- sources
 
--- what a name stands for among these tables
-abbrev pub look_among : List Table → Lookup
-look_among tables name = looked_up (table_named name tables)
-
 -- each source is known, and none is NEW or OLD
 abbrev pub AreTables : List ScopeSource → Type 0
 AreTables scope = IsOutside scope × (list_any (λ s. not s.is_known) scope ≡ false)
 
--- one source after others: all that are seen then, and the source with its condition
-abbrev pub resolve_source : Lookup → List ScopeSource → JoinKind → Source → Option Tree
+-- one source after others, whose columns are these: all that are seen then, and the source with its condition
+abbrev pub source_joined : List ScopeSource → JoinKind → Source → Option Tree → Checked (List ScopeColumn × Bool)
     → Checked (List ScopeSource × (Name × Condition))
-resolve_source look before kind s on =
-    noted (look s.name) and_then λ found.
+source_joined before kind s on found =
     let here : List ScopeSource = before ++ source_of (source_name s) found ∷ [] in
     known_map (λ c. (here, (folded s.name, c))) (resolve_join here kind on)
+
+-- the same of a source that is looked up
+abbrev pub resolve_source : Lookup → List ScopeSource → JoinKind → Source → Option Tree
+    → Checked (List ScopeSource × (Name × Condition))
+resolve_source look before kind s on = noted (look s.name) and_then source_joined before kind s on
 
 -- the same, with the source after those that were joined before
 abbrev pub onto_source : List (Name × Condition) → Checked (List ScopeSource × (Name × Condition))
@@ -67,13 +73,31 @@ sources_from (Some f) = record { kind = join.Comma; source = f.first; condition 
 abbrev pub place_seen : Table → BoundSource
 place_seen t = record { root = t.root; shape = shape_of t }
 
--- the place is that of the listed table of the source's name
-abbrev pub IsPlaced : List Table → Name × Condition → BoundSource → Type 0
-IsPlaced tables source place = option_map place_seen (table_named source.0 tables) ≡ Some place
+-- the rows of that name come from the place of the listed table of the name; or no table has it, and they are a listed view's
+abbrev pub IsOriginOf : Listed → Name → Origin → Type 0
+IsOriginOf l name (origin.Tree place) = option_map place_seen (table_named name l.tables) ≡ Some place
+IsOriginOf l name origin.View = (table_named name l.tables ≡ None) × (is_some (view_named name l.views) ≡ true)
 
--- each source, in order, is a listed table, at its own place
-abbrev pub ArePlaced : List Table → List (Name × Condition) → List BoundSource → Type 0
-ArePlaced tables sources places = EachOf (IsPlaced tables) sources places
+-- the source's rows come from there
+abbrev pub IsPlaced : Listed → Name × Condition → Origin → Type 0
+IsPlaced l source place = IsOriginOf l source.0 place
+
+-- each source, in order, is a listed table, at its own place, or a listed view
+abbrev pub ArePlaced : Listed → List (Name × Condition) → List Origin → Type 0
+ArePlaced l sources origins = EachOf (IsPlaced l) sources origins
+
+-- ---- views
+
+-- a column under this name, folded, or under its own where there is none
+abbrev pub column_renamed : Option Name → ScopeColumn → ScopeColumn
+column_renamed None c = c
+column_renamed (Some name) c = record c { name = Some (folded name) }
+
+-- the columns of a listed view, with room for so many views one within another; around are the views that it stands in
+abbrev pub view_in : ℕ → Listed → List Name → Name → View → Checked (List ScopeColumn × Bool)
+view_in zero l around name v = unless_around around name (bad ([], false) TooLong)
+view_in (suc n) l around name v =
+    unless_around around name (view_columns (as_view v) (resolve_query (columns_in n l (folded name ∷ around)) [] v.definition.query))
 
 -- ---- results
 

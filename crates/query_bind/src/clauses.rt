@@ -1,6 +1,7 @@
 //! WHERE, GROUP BY and ORDER BY.
 
-ghost use Rattle.std.specs.Prelude.{◌≡◌, ◌∷◌, [], List, true, false, map, None, option_map, unwrap_or};
+ghost use Rattle.std.specs.Prelude.{◌≡◌, ◌∷◌, [], List, true, false, map, None, option_map, unwrap_or, IfErr};
+ghost use Rattle.sqlval.specs.Faults.{IsNotDiskFault};
 ghost use Rattle.sql_syntax.specs.Tree as form;
 ghost use Rattle.sql_syntax.specs.declared.query.ResultItem.{ResultItem};
 ghost use Rattle.query_names.specs.Checked.{known_all};
@@ -17,14 +18,15 @@ use sql_syntax::{Expr, Node as Tree, OrderTerm, ResultItem};
 use sqlval::{Fault, Misuse, Name, R};
 use std::alloc::Global;
 
-/// WHERE, in which no aggregate may stand.
+/// WHERE, in which no aggregate may stand. (`NoSuch`, `Ambiguous`, `Misuse`.)
 #[tactic(auto, using(query_names::proofs::PartRefusals::mapped))]
 pub fn bind_filter(
     alloc: Global,
     scope: &[ScopeSource],
     condition: &Option<Expr>,
 ) -> R<Option<Term>>
-    ensures { IsOutside scope.now → Names (resolve_filter scope.now condition.now) result }
+    ensures named { IsOutside scope.now → Names (resolve_filter scope.now condition.now) result }
+    ensures not_disk { IsOutside scope.now → IfErr result (λ fault. IsNotDiskFault fault) }
 {
     match condition {
         Some(tree) => Ok(Some(bind_term(alloc, false, scope, tree)?)),

@@ -5,7 +5,7 @@ ghost use Rattle.std.specs.List.{list_any};
 ghost use Rattle.sqlval.specs.Faults.{IsNotDiskFault};
 ghost use Rattle.sqlval.specs.Names.{is_same_name};
 ghost use Rattle.sqlval.specs.Refusals.{refusal_of};
-ghost use Rattle.catalog.specs.Listed.{as_column, with_rows, tables_of};
+ghost use Rattle.catalog.specs.Listed.{as_column, listed_in, with_rows, tables_of};
 ghost use Rattle.query_names.specs.Bound.{AreOnce, is_twice_named, source_seen};
 ghost use Rattle.query_names.specs.Checked.{known_all};
 ghost use Rattle.query_names.specs.Named.{Names, NamesBy};
@@ -127,10 +127,10 @@ pub fn bind_index<'a>(
     definition: &IndexDefinition,
 ) -> R<BoundIndex<'a>>
     ensures made { AreOnce (tables_of catalog.now)
-        → IfOk result (λ made. IsIndexOn (tables_of catalog.now) definition.now made.table.now made.columns) }
+        → IfOk result (λ made. IsIndexOn (listed_in catalog.now) definition.now made.table.now made.columns) }
     ensures refused { AreOnce (tables_of catalog.now)
         → IfErr result (λ fault. (fault ≡ Fault.Memory)
-        ⊎ IsIndexRefusal (tables_of catalog.now) definition.now (refusal_of fault)) }
+        ⊎ IsIndexRefusal (listed_in catalog.now) definition.now (refusal_of fault)) }
     ensures not_disk { IfErr result (λ fault. IsNotDiskFault fault) }
 {
     if is_reserved(definition.name.as_str()) {

@@ -1,7 +1,8 @@
-//! The names of whole queries and of CREATE INDEX, looked up among the tables of a catalog.
+//! The names of whole queries and of CREATE INDEX, looked up among the tables and views of a catalog.
 #![tactic(auto)]
 
 mod assigning;
+mod changing;
 mod clauses;
 mod copying;
 mod filtering;
@@ -11,8 +12,11 @@ mod parts;
 mod querying;
 mod results;
 mod sources;
+mod views;
 
 pub use assigning::bind_sets;
+pub use changing::{bind_places, bind_source, bind_values};
+pub use clauses::bind_filter;
 pub use filtering::bind_where;
 pub use indexed::{BoundIndex, bind_index, indexes_are_created_as_defined};
 pub use querying::{BoundReading, bind_reading};

@@ -1,15 +1,17 @@
 //! Queries, looked up whole.
 
-ghost use Rattle.std.specs.Prelude.{◌≡◌, ◌&&◌, ◌||◌, [], false, map, option_map, IfErr, IfOk};
+ghost use Rattle.std.specs.Prelude.{◌≡◌, ◌&&◌, ◌||◌, ℕ, ℤ, List, [], false, map, option_map, IfErr, IfOk};
 ghost use Rattle.std.specs.List.{list_any};
 ghost use Rattle.sqlval.specs.Faults.{IsNotDiskFault};
-ghost use Rattle.catalog.specs.Listed.{tables_of};
-ghost use Rattle.query_names.specs.Bound.{Knows};
+ghost use Rattle.sqlval.specs.declared.value.Value.{Value};
+ghost use Rattle.catalog.specs.Database.{Database};
+ghost use Rattle.catalog.specs.Listed.{Lists, listed_in};
 ghost use Rattle.query_names.specs.Checked.{meant};
 ghost use Rattle.query_names.specs.Grouping.{has, is_own_cell, keyed};
 ghost use Rattle.query_names.specs.Named.{Names, NamesBy};
 ghost use Rattle.query_names.specs.Queries as query;
-ghost use Rattle.query_names.specs.Queries.{Lookup, resolve_query};
+ghost use Rattle.query_names.specs.Queries.{resolve_query};
+ghost use Rattle.query_names.specs.Views.{look_up};
 ghost use Rattle.query_bind.specs.Named.{ArePlaced, AreTables, is_grouped_by, is_no_result, reading_for, resolve_clauses};
 
 use crate::clauses::{bind_filter, bind_keys, bind_orders};
@@ -18,21 +20,24 @@ use crate::parts::{
     has_other, orders_have_cell, orders_have_total, results_have_cell, results_have_total,
 };
 use crate::results::{bind_results, columns_of};
-use crate::sources::{Sources, bind_sources};
+use crate::views::bind_query;
 use catalog::Catalog;
-use query_names::{BoundSource, Condition, Reading, ScopeColumn, ScopeSource};
+use query_names::{Condition, Origin, Reading, ScopeColumn, ScopeSource, listed_tables_are_known};
 use query_terms::Term;
 use sql_syntax::{Limit, Query};
 use sqlval::limits::MAX_COLUMNS;
 use sqlval::{Fault, Many, Misuse, Name, R};
 use std::alloc::Global;
 
-/// A query whose names are looked up, and where its sources' trees begin.
+/// The most views that stand one within another.
+pub const MAX_VIEWS: usize = 64;
+
+/// A query whose names are looked up, and where its sources' rows come from.
 #[derive(Drop)]
 pub struct BoundReading {
     pub reading: Reading,
-    /// The table of each source: the page at which its tree begins, and how its rows lie in records.
-    pub tables: Many<BoundSource>,
+    /// Where the rows of each source come from: the tree of a table, or the query of a view.
+    pub origins: Many<Origin>,
 }
 
 /// The parts of a query, each looked up.
@@ -133,7 +138,7 @@ fn reading_of(alloc: Global, query: &Query, parts: Parts) -> R<Reading>
 }
 
 /// The reading of a query whose sources are looked up.
-fn bind_clauses(
+pub fn bind_clauses(
     alloc: Global,
     scope: &[ScopeSource],
     joined: Vec<(Name, Condition)>,
@@ -160,24 +165,16 @@ fn bind_clauses(
     )
 }
 
-/// Looks up the names of a query: its reading, with the place of each source, or one of the refusals that its text has.
+/// Looks up the names of a query: its reading, and where the rows of each source come from, or one of the refusals that its text has.
 /// (`NoSuch`, `Ambiguous`, `Misuse`, `TooLong`.)
 pub fn bind_reading(alloc: Global, catalog: &Catalog, query: &Query) -> R<BoundReading>
-    ensures named { (look : Lookup) → Knows look (tables_of catalog.now)
-        → NamesBy (λ bound. bound.reading) (resolve_query look [] query.now) result }
+    ensures named { (rows_at : ℕ → List (ℤ × List Value)) (db : Database) → Lists rows_at (listed_in catalog.now) db
+        → NamesBy (λ bound. bound.reading) (resolve_query (look_up db) [] query.now) result }
     ensures placed { IfOk result (λ bound. ArePlaced
-        (tables_of catalog.now) bound.reading.sources bound.tables) }
+        (listed_in catalog.now) bound.reading.sources bound.origins) }
     ensures closed { IfOk result (λ bound. bound.reading.is_open ≡ false) }
     ensures not_disk { IfErr result (λ fault. IsNotDiskFault fault) }
 {
-    let Sources {
-        scope,
-        joined,
-        tables,
-    } = bind_sources(alloc, catalog, &query.from)?;
-    let reading = bind_clauses(alloc, scope.as_slice(), joined, query)?;
-    Ok(BoundReading {
-        reading,
-        tables: Many::from_vec(tables),
-    })
+    listed_tables_are_known();
+    bind_query(alloc, catalog, MAX_VIEWS, &[], query)
 }

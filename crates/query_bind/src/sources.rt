@@ -3,28 +3,37 @@
 ghost use Rattle.std.specs.Prelude.{◌≡◌, ◌++◌, ◌∷◌, [], IfErr, IfOk, OnOk};
 ghost use Rattle.sqlval.specs.Faults.{IsOrMemory};
 ghost use Rattle.sqlval.specs.Names as spelled;
-ghost use Rattle.catalog.specs.Listed.{tables_of};
+ghost use Rattle.catalog.specs.Listed.{Listed};
 ghost use Rattle.query_names.specs.Bound.{source_seen, columns_seen};
+ghost use Rattle.query_names.specs.Checked.{good};
 ghost use Rattle.query_names.specs.Named.{IsOutside, Names, NamesBy};
 ghost use Rattle.query_names.specs.Queries as meant;
-ghost use Rattle.query_names.specs.Queries.{resolve_join, resolve_sources};
-ghost use Rattle.query_bind.specs.Named.{ArePlaced, AreTables, look_among, onto_source, onto_sources};
-ghost use Rattle.query_bind.specs.Named.{place_seen, resolve_source, sources_from};
+ghost use Rattle.query_names.specs.Queries.{resolve_join};
+ghost use Rattle.query_names.specs.Scopes as seen;
+ghost use Rattle.query_bind.specs.Named.{ArePlaced, AreTables, IsOriginOf, onto_source, place_seen, source_joined};
 
-use catalog::{Catalog, Table};
+use catalog::Table;
 use query_names::{
-    BoundSource, Condition, ScopeColumn, ScopeSource, bind_term, find_table, folded, scope_column,
+    BoundSource, Condition, Origin, ScopeColumn, ScopeSource, bind_term, folded, scope_column,
 };
-use sql_syntax::{Expr, FromClause, Join, JoinKind, Source};
+use sql_syntax::{Expr, JoinKind, Source};
 use sqlval::{Fault, Many, Name, R};
 use std::alloc::Global;
 
-/// The sources of FROM: what expressions see, each with its condition, and where their trees begin.
+/// The sources of FROM: what expressions see, each with its condition, and where their rows come from.
 #[derive(Drop)]
 pub struct Sources {
     pub scope: Vec<ScopeSource>,
     pub joined: Vec<(Name, Condition)>,
-    pub tables: Vec<BoundSource>,
+    pub origins: Vec<Origin>,
+}
+
+/// A table or a view, looked up: its columns, whether it has a rowid, and where its rows come from.
+#[derive(Drop)]
+pub struct Found {
+    pub columns: Many<ScopeColumn>,
+    pub has_rowid: bool,
+    pub origin: Origin,
 }
 
 /// A table's columns, as expressions see them.
@@ -39,6 +48,22 @@ fn columns_of(alloc: Global, table: &Table) -> R<Many<ScopeColumn>>
         seen.push(scope_column(alloc, &columns[place], is_rowid)?)?;
     }
     Ok(Many::from_vec(seen))
+}
+
+/// A table, looked up.
+pub fn table_found(alloc: Global, table: &Table) -> R<Found>
+    ensures seen { IsOrMemory (λ found. (found.columns, found.has_rowid) ≡ columns_seen table.now) result }
+    ensures placed { IfOk result (λ found. found.origin ≡ Origin.Tree (place_seen table.now)) }
+{
+    let columns = columns_of(alloc, table)?;
+    Ok(Found {
+        columns,
+        has_rowid: true,
+        origin: Origin::Tree(BoundSource {
+            root: table.root,
+            shape: table.shape(),
+        }),
+    })
 }
 
 /// The name of a source in its query.
@@ -66,6 +91,20 @@ pub fn source_of(alloc: Global, name: &Name, table: &Table) -> R<ScopeSource>
     })
 }
 
+/// What was looked up, as a source of this name. (`Memory` alone.)
+pub fn source_found(alloc: Global, name: &Name, found: Found) -> R<ScopeSource>
+    ensures { IsOrMemory (λ source. source ≡ seen.source_of (spelled.folded name.now)
+        (good (found.columns, found.has_rowid))) result }
+{
+    Ok(ScopeSource {
+        name: folded(alloc, name)?,
+        columns: found.columns,
+        has_rowid: found.has_rowid,
+        needs_name: false,
+        is_known: true,
+    })
+}
+
 /// What stands after ON.
 #[tactic(auto, using(query_names::proofs::PartRefusals::mapped))]
 fn condition_of(
@@ -85,101 +124,48 @@ fn condition_of(
     }
 }
 
-/// Notes a table as a further source, under this condition.
-fn join_table(
+/// Notes a further source, whose rows come from there, under this condition.
+fn note_source(
     alloc: Global,
     found: &mut Sources,
     name: &Name,
-    table: &Table,
+    origin: Origin,
     condition: Condition,
 ) -> R<()>
     ensures joined { OnOk result (found.new.joined.items ≡ found.old.joined.items ++
         (spelled.folded name.now, condition) ∷ []) }
-    ensures placed { OnOk result (found.new.tables.items
-        ≡ found.old.tables.items ++ place_seen table.now ∷ []) }
+    ensures placed { OnOk result (found.new.origins.items ≡ found.old.origins.items ++ origin ∷ []) }
     ensures kept { found.new.scope.items ≡ found.old.scope.items }
     ensures refused { IfErr result (λ fault. fault ≡ Fault.Memory) }
 {
     let name = folded(alloc, name)?;
     found.joined.push((name, condition))?;
-    found.tables.push(BoundSource {
-        root: table.root,
-        shape: table.shape(),
-    })?;
+    found.origins.push(origin)?;
     Ok(())
 }
 
-/// Looks up one more source and its ON, which sees the sources up to its own.
-fn add_source(
+/// Adds one more source, which was looked up, with its ON, which sees the sources up to its own.
+pub fn join_source(
     alloc: Global,
-    catalog: &Catalog,
     found: &mut Sources,
     kind: JoinKind,
     source: &Source,
     condition: &Option<Expr>,
+    seen: Found,
 ) -> R<()>
     ensures named { AreTables found.old.scope.items
         → NamesBy (λ done. (found.new.scope.items, found.new.joined.items))
         (onto_source found.old.joined.items
-        (resolve_source (look_among (tables_of catalog.now)) found.old.scope.items kind source.now
-        condition.now)) result }
+        (source_joined found.old.scope.items kind source.now condition.now
+        (good (seen.columns, seen.has_rowid)))) result }
     ensures seen { AreTables found.old.scope.items → OnOk result (AreTables found.new.scope.items) }
-    ensures placed { ArePlaced (tables_of catalog.now) found.old.joined.items found.old.tables.items
-        → OnOk result (ArePlaced (tables_of catalog.now) found.new.joined.items found.new.tables.items) }
+    ensures placed { (l : Listed) → IsOriginOf l source.now.name seen.origin
+        → ArePlaced l found.old.joined.items found.old.origins.items
+        → OnOk result (ArePlaced l found.new.joined.items found.new.origins.items) }
 {
-    let table = find_table(alloc, catalog, &source.name)?;
-    let seen = source_of(alloc, name_of(source), table)?;
-    found.scope.push(seen)?;
+    let origin = seen.origin;
+    let here = source_found(alloc, name_of(source), seen)?;
+    found.scope.push(here)?;
     let condition = condition_of(alloc, found.scope.as_slice(), kind, condition)?;
-    join_table(alloc, found, &source.name, table, condition)
-}
-
-/// The sources after the first, each after those before it.
-fn add_joins(alloc: Global, catalog: &Catalog, found: &mut Sources, joins: &[Join]) -> R<()>
-    ensures named { AreTables found.old.scope.items
-        → NamesBy (λ done. (found.new.scope.items, found.new.joined.items))
-        (onto_sources found.old.joined.items
-        (resolve_sources (look_among (tables_of catalog.now)) found.old.scope.items joins.now)) result }
-    ensures seen { AreTables found.old.scope.items → OnOk result (AreTables found.new.scope.items) }
-    ensures placed { ArePlaced (tables_of catalog.now) found.old.joined.items found.old.tables.items
-        → OnOk result (ArePlaced (tables_of catalog.now) found.new.joined.items found.new.tables.items) }
-{
-    'joins: for join in joins {
-        add_source(
-            alloc,
-            catalog,
-            found,
-            join.kind,
-            &join.source,
-            &join.condition,
-        )?;
-    }
-    Ok(())
-}
-
-/// The sources of a query, looked up among the tables.
-pub fn bind_sources(alloc: Global, catalog: &Catalog, from: &Option<FromClause>) -> R<Sources>
-    ensures named { NamesBy (λ found. (found.scope.items, found.joined.items))
-        (resolve_sources (look_among (tables_of catalog.now)) [] (sources_from from.now)) result }
-    ensures seen { IfOk result (λ found. AreTables found.scope.items) }
-    ensures placed { IfOk result (λ found. ArePlaced
-        (tables_of catalog.now) found.joined.items found.tables.items) }
-{
-    let mut found = Sources {
-        scope: Vec::new(alloc),
-        joined: Vec::new(alloc),
-        tables: Vec::new(alloc),
-    };
-    if let Some(from) = from {
-        add_source(
-            alloc,
-            catalog,
-            &mut found,
-            JoinKind::Comma,
-            &from.first,
-            &None,
-        )?;
-        add_joins(alloc, catalog, &mut found, from.joins.as_slice())?;
-    }
-    Ok(found)
+    note_source(alloc, found, &source.name, origin, condition)
 }

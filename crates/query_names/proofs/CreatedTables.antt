@@ -247,10 +247,10 @@ is_added f db n o reserved taken free fresh =
     ∙ ap (λ t. known_map f (unless false Misuse (unless (is_some t) Exists (known_map (with_object db n) (good o))))) fresh
 
 pub makes_by : NamesListed → MakesListedTable
-makes_by listed_names rows_at tables db d t lists fresh same checks keys =
+makes_by listed_names rows_at l db d t lists fresh same checks keys =
     then_good (table_made d) (with_rows t [], map key_columns t.keys) _ (listed_made d t fresh.once same keys checks)
     ∙ is_added (λ after. with_objects after (automatic d.name 1 (map key_columns t.keys))) db d.name (ATable (with_rows t [])) (is_reserved d.name) (object db d.name) fresh.free
-    (nothing (object db d.name) (listed_names rows_at tables db d.name lists ∙ fresh.new))
+    (nothing (object db d.name) (listed_names rows_at l db d.name lists ∙ fresh.new))
 
 -- ---- refusals
 
@@ -388,12 +388,12 @@ module _ (db : Database) (d : TableDefinition) where
   refused_so r s e h = subst (Contains (faults (create_table db d))) (sym e) h.among
 
 pub refuses_by : NamesListed → RefusesTableAsDefined
-refuses_by listed_names rows_at tables db d r lists (inl (e, h)) = refused_so db d r Misuse e (reserved_refused db d h)
-refuses_by listed_names rows_at tables db d r lists (inr (inl (e, h))) =
-    let (o, is) = something (object db d.name) (listed_names rows_at tables db d.name lists ∙ h) in refused_so db d r Exists e (taken_refused db d o is)
-refuses_by listed_names rows_at tables db d r lists (inr (inr (inl (e, h)))) = refused_so db d r Misuse e (doubled_refused db d h)
-refuses_by listed_names rows_at tables db d r lists (inr (inr (inr (inl h)))) = (column_refused db d r h).among
-refuses_by listed_names rows_at tables db d r lists (inr (inr (inr (inr h)))) = (rule_refused db d r h).among
+refuses_by listed_names rows_at l db d r lists (inl (e, h)) = refused_so db d r Misuse e (reserved_refused db d h)
+refuses_by listed_names rows_at l db d r lists (inr (inl (e, h))) =
+    let (o, is) = something (object db d.name) (listed_names rows_at l db d.name lists ∙ h) in refused_so db d r Exists e (taken_refused db d o is)
+refuses_by listed_names rows_at l db d r lists (inr (inr (inl (e, h)))) = refused_so db d r Misuse e (doubled_refused db d h)
+refuses_by listed_names rows_at l db d r lists (inr (inr (inr (inl h)))) = (column_refused db d r h).among
+refuses_by listed_names rows_at l db d r lists (inr (inr (inr (inr h)))) = (rule_refused db d r h).among
 
 pub makes_table : MakesListedTable
 makes_table = makes_by names_listed

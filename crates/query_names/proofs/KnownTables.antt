@@ -1,37 +1,49 @@
--- Listed tables, looked up.
-use Rattle.std.proofs.Common.{◌≡◌, inl, inr, ap, ℕ, not, ◌&&◌, ◌==◌, nat_lt, ℤ, List, [], ◌∷◌, length, Bool, false, Option, Some, None}
+-- What names stand for beside what is listed.
+use Rattle.std.proofs.Common.{◌≡◌, inl, inr, ap, ◌∙◌, ℕ, zero, suc, ℤ, List, [], ◌∷◌, Bool, false, Option, Some, None}
 use Rattle.std.specs.Prelude.{MatchOption}
 use Rattle.sqlval.specs.Names.{folded}
-use Rattle.sqlval.specs.Refusals.{Misuse}
+use Rattle.sqlval.specs.Refusals.{TooLong}
 use Rattle.sqlval.specs.declared.value.Value.{Value}
-use Rattle.catalog.specs.Database.{Database, Name, Object, View, ATable, object}
-use Rattle.catalog.specs.Laws.{FindsListed, IsNoTable}
+use Rattle.catalog.specs.Database.{Name, Object, View, ATable, AView, object}
+use Rattle.catalog.specs.Laws.{FindsListed, IsNoSource}
 use Rattle.catalog.proofs.Found.{finds_listed}
-use Rattle.catalog.specs.Listed.{with_rows, table_named}
+use Rattle.catalog.specs.Listed.{as_view, with_rows, table_named, view_named}
 use Rattle.catalog.specs.declared.tables.Table.{Table}
+use Rattle.catalog.specs.declared.tables.View.{View as ListedView}
 use Rattle.query_names.specs.Bound.{looked_up}
-use Rattle.query_names.specs.Checked.{Checked, good, ◌and_then◌, unless}
+use Rattle.query_names.specs.Checked.{Checked, bad}
+use Rattle.query_names.specs.Known.{columns_listed}
 use Rattle.query_names.specs.Laws.{KnowsListed}
-use Rattle.query_names.specs.Queries.{resolve_query}
+use Rattle.query_names.specs.Queries.{Lookup, resolve_query}
 use Rattle.query_names.specs.declared.scope.ScopeColumn.{ScopeColumn}
-use Rattle.query_names.specs.Views.{columns_of, columns_of_object, unless_around, renamed}
+use Rattle.query_names.specs.Views.{columns_of, columns_of_object, unless_around, view_columns}
 
-abbrev view_in : Database → Name → View → Checked (List ScopeColumn × Bool)
-view_in db name v = unless_around [] name (
-    resolve_query (columns_of 63 db (folded name ∷ [])) [] v.query and_then λ q.
-    unless (nat_lt 0 (length v.columns) && not q.is_open && not (length v.columns == length q.columns)) Misuse (good (renamed v.columns q.columns, false)))
+abbrev Seen : Type 0
+Seen = Checked (List ScopeColumn × Bool)
 
-no_table : (view : View → Checked (List ScopeColumn × Bool)) (found : Option Object) → IsNoTable found → columns_of_object view found ≡ looked_up None
-no_table view found (inl none) = ap (columns_of_object view) none
-no_table view found (inr (i, is)) = ap (columns_of_object view) is
+no_source : (view : View → Seen) (found : Option Object) → IsNoSource found → columns_of_object view found ≡ looked_up None
+no_source view found (inl none) = ap (columns_of_object view) none
+no_source view found (inr (i, is)) = ap (columns_of_object view) is
 
-of_table : (rows_at : ℕ → List (ℤ × List Value)) (view : View → Checked (List ScopeColumn × Bool)) (found : Option Object) (t : Option Table)
-    → MatchOption t (IsNoTable found) (λ t. found ≡ Some (ATable (with_rows t (rows_at t.root)))) → columns_of_object view found ≡ looked_up t
-of_table rows_at view found None h = no_table view found h
-of_table rows_at view found (Some t) h = ap (columns_of_object view) h
+-- what a name finds, looked at
+found_as : (rows_at : ℕ → List (ℤ × List Value)) (view : View → Seen) (found : Option Object) (t : Option Table) (v : Option ListedView)
+    → MatchOption t (MatchOption v (IsNoSource found) (λ v. found ≡ Some (AView (as_view v)))) (λ t. found ≡ Some (ATable (with_rows t (rows_at t.root))))
+    → columns_of_object view found ≡ columns_listed (λ v. view (as_view v)) t v
+found_as rows_at view found (Some t) v h = ap (columns_of_object view) h
+found_as rows_at view found None (Some v) h = ap (columns_of_object view) h
+found_as rows_at view found None None h = no_source view found h
+
+-- a view, by what its query's names are looked up with
+abbrev by_query : List Name → Name → Lookup → View → Seen
+by_query around name look v = unless_around around name (view_columns v (resolve_query look [] v.query))
 
 pub known_by : FindsListed → KnowsListed
-known_by finds rows_at tables db h name = of_table rows_at (view_in db name) (object db name) (table_named name tables) (finds rows_at tables db name h)
+known_by finds rows_at l db h zero around name =
+    found_as rows_at (λ v. unless_around around name (bad ([], false) TooLong)) (object db name) (table_named name l.tables) (view_named name l.views) (finds rows_at l db name h)
+known_by finds rows_at l db h (suc n) around name =
+    found_as rows_at (by_query around name (columns_of n db (folded name ∷ around))) (object db name) (table_named name l.tables) (view_named name l.views) (finds rows_at l db name h)
+    ∙ ap (λ (look : Lookup). columns_listed (λ v. by_query around name look (as_view v)) (table_named name l.tables) (view_named name l.views))
+    (λ i k. known_by finds rows_at l db h n (folded name ∷ around) k i)
 
 pub known_listed : KnowsListed
 known_listed = known_by finds_listed

@@ -9,6 +9,7 @@ mod FirstColumns
 mod FormRows
 pub mod InsertNames
 mod KeyNames
+pub mod KnownQueries
 pub mod KnownTables
 pub mod PartRefusals
 pub mod PlainFlows

@@ -11,7 +11,6 @@ use Rattle.catalog.specs.Listed.{with_rows, table_named}
 use Rattle.catalog.specs.declared.tables.Column.{Column}
 use Rattle.catalog.specs.declared.tables.Table.{Table}
 use Rattle.query_names.specs.Checked.{Checked, good, bad}
-use Rattle.query_names.specs.Queries.{Lookup}
 use Rattle.query_names.specs.Scopes.{source_of, table_scope}
 use Rattle.query_names.specs.declared.scope.ScopeColumn.{ScopeColumn}
 use Rattle.query_names.specs.declared.scope.ScopeSource.{ScopeSource}
@@ -30,10 +29,6 @@ columns_seen t = (table_scope (with_rows t []), true)
 abbrev pub looked_up : Option Table → Checked (List ScopeColumn × Bool)
 looked_up None = bad ([], false) NoSuch
 looked_up (Some t) = good (columns_seen t)
-
--- each name is looked up among these tables
-abbrev pub Knows : Lookup → List Table → Type 0
-Knows look tables = (name : Name) → look name ≡ looked_up (table_named name tables)
 
 -- two columns have one name
 abbrev pub is_twice_named : List Column → Bool

@@ -12,7 +12,7 @@ use Rattle.sql_syntax.specs.declared.create.ColumnDefinition.{ColumnDefinition}
 use Rattle.sql_syntax.specs.declared.create.NewObject.TheVariants as new
 use Rattle.sql_syntax.specs.declared.create.TableDefinition.{TableDefinition}
 use Rattle.catalog.specs.Database.{Database, Name, ATable, TableColumn, with_object}
-use Rattle.catalog.specs.Listed.{Lists, as_column, is_name_of, is_reserved, key_columns, with_rows}
+use Rattle.catalog.specs.Listed.{Listed, Lists, as_column, is_name_of, is_reserved, key_columns, with_rows}
 use Rattle.catalog.specs.declared.tables.Column.{Column}
 use Rattle.catalog.specs.declared.tables.Table.{Table}
 use Rattle.query_names.specs.Bound.{AreOnce}
@@ -39,11 +39,10 @@ defined c = (c.name, column_of c)
 abbrev pub described : Column → Name × Checked TableColumn
 described c = (c.name, good (as_column c))
 
--- nothing is in the definition's way: its name may be given, none of the tables and of their indexes has it, and no two columns have one
--- name
-pub record IsNewBeside (tables : List Table) (d : TableDefinition) : Type 0 where
+-- nothing is in the definition's way: its name may be given, nothing that is listed has it, and no two columns have one name
+pub record IsNewBeside (l : Listed) (d : TableDefinition) : Type 0 where
   pub free : is_reserved d.name ≡ false
-  pub new : is_name_of tables d.name ≡ false
+  pub new : is_name_of l d.name ≡ false
   pub once : has_doubled d.columns ≡ false
 
 -- the table has the definition's columns, each under its name
@@ -113,12 +112,12 @@ abbrev pub IsRuleRefusal : TableDefinition → Refusal → Type 0
 IsRuleRefusal d r = (columns : List Column) × (map described columns ≡ map defined d.columns)
     × (Contains (faults (checks_known d columns)) r ⊎ Contains (faults (table_keys_known d columns)) r)
 
--- Why a definition is refused beside these tables: its name is reserved, a table or an index has it, two columns have one name, or a
--- column, a CHECK or a key is refused.
-abbrev pub IsCreateRefusal : List Table → TableDefinition → Refusal → Type 0
-IsCreateRefusal tables d r =
+-- Why a definition is refused beside what is listed: its name is reserved, an object has it, two columns have one name, or a column, a CHECK
+-- or a key is refused.
+abbrev pub IsCreateRefusal : Listed → TableDefinition → Refusal → Type 0
+IsCreateRefusal l d r =
     (r ≡ Misuse) × (is_reserved d.name ≡ true)
-    ⊎ (((r ≡ Exists) × (is_name_of tables d.name ≡ true))
+    ⊎ (((r ≡ Exists) × (is_name_of l d.name ≡ true))
     ⊎ (((r ≡ Misuse) × (has_doubled d.columns ≡ true))
     ⊎ (Contains (faults (known_all (map column_of d.columns))) r
     ⊎ IsRuleRefusal d r)))
@@ -126,14 +125,14 @@ IsCreateRefusal tables d r =
 -- A table with the columns, CHECKs and keys of a definition, where nothing is in its way, is the one that CREATE TABLE makes: under its name,
 -- without rows, with the indexes that its keys ask for, and not refused.
 abbrev pub MakesListedTable : Type 0
-MakesListedTable = (rows_at : ℕ → List (ℤ × List Value)) (tables : List Table) (db : Database) (d : TableDefinition) (t : Table)
-    → Lists rows_at tables db → IsNewBeside tables d → HasColumnsOf d t → HasChecksOf d t → HasKeysOf d t
+MakesListedTable = (rows_at : ℕ → List (ℤ × List Value)) (l : Listed) (db : Database) (d : TableDefinition) (t : Table)
+    → Lists rows_at l db → IsNewBeside l d → HasColumnsOf d t → HasChecksOf d t → HasKeysOf d t
     → create db (new.Table d) ≡ good (with_objects (with_object db d.name (ATable (with_rows t []))) (automatic d.name 1 (map key_columns t.keys)))
 
--- Why a definition is refused beside the listed tables is among the refusals of its CREATE TABLE.
+-- Why a definition is refused beside what is listed is among the refusals of its CREATE TABLE.
 abbrev pub RefusesTableAsDefined : Type 0
-RefusesTableAsDefined = (rows_at : ℕ → List (ℤ × List Value)) (tables : List Table) (db : Database) (d : TableDefinition) (r : Refusal)
-    → Lists rows_at tables db → IsCreateRefusal tables d r → Contains (faults (create db (new.Table d))) r
+RefusesTableAsDefined = (rows_at : ℕ → List (ℤ × List Value)) (l : Listed) (db : Database) (d : TableDefinition) (r : Refusal)
+    → Lists rows_at l db → IsCreateRefusal l d r → Contains (faults (create db (new.Table d))) r
 
 -- With a new table whose columns are those of a definition that names none twice, each listed table's columns have different names.
 abbrev pub KeepsNamesOnce : Type 0

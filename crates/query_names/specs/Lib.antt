@@ -6,6 +6,7 @@ pub mod Expressions
 pub mod Grouping
 pub mod Inserts
 pub mod Keys
+pub mod Known
 pub mod Checked
 pub mod Laws
 pub mod Named

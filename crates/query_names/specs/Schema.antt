@@ -1,5 +1,5 @@
 -- CREATE and DROP: the database after them, or each of their refusals.
-use Rattle.std.specs.Prelude.{ℕ, suc, Bool, true, false, not, ◌||◌, List, [], ◌∷◌, ◌++◌, map, Option, Some, None, is_some, unwrap_or, if◌then◌else◌, codes, filter, filter_map, decimal}
+use Rattle.std.specs.Prelude.{ℕ, suc, Bool, true, false, not, ◌||◌, List, [], ◌∷◌, ◌++◌, map, Option, Some, None, is_some, if◌then◌else◌, codes, filter, filter_map, decimal}
 use Rattle.std.specs.FinMap.Entries.{put}
 use Rattle.sqlval.specs.Names.{folded, is_same_name}
 use Rattle.sqlval.specs.Refusals.{NoSuch, Exists, Misuse}
@@ -18,7 +18,7 @@ use Rattle.sql_syntax.specs.declared.create.ViewDefinition.{ViewDefinition}
 use Rattle.sql_syntax.specs.declared.statement.ObjectKind.{ObjectKind}
 use Rattle.sql_syntax.specs.declared.statement.ObjectKind.TheVariants as kind
 use Rattle.catalog.specs.Database.{Name, Database, object, with_object, Object, ATable, AnIndex, AView, ATrigger, Table, name_order}
-use Rattle.catalog.specs.Listed.{is_reserved}
+use Rattle.catalog.specs.Listed.{is_reserved, names_listed}
 use Rattle.query_names.specs.Expressions.{resolve_collation}
 use Rattle.query_names.specs.Checked.{Checked, good, bad, known_map, known_all, ◌and_then◌, unless}
 use Rattle.query_names.specs.Scopes.{table_source, place_of, is_doubled}
@@ -70,13 +70,9 @@ index_made _ d = known_all (map resolve_collation (filter_map (λ c. c.collation
 abbrev pub create_index : Database → IndexDefinition → Checked Database
 create_index db d = unless (is_doubled (map (λ c. c.name) d.columns)) Misuse (added db d.name (index_made (object db d.table) d))
 
--- the names that a view's text lists
-abbrev pub listed : ViewDefinition → List Name
-listed d = unwrap_or d.columns []
-
 -- its query is bound only when it is used
 abbrev pub view_made : ViewDefinition → Checked Object
-view_made d = unless (is_doubled (listed d)) Misuse (good (AView (record { columns = map folded (listed d); query = d.query })))
+view_made d = unless (is_doubled (names_listed d)) Misuse (good (AView (record { columns = map folded (names_listed d); query = d.query })))
 
 -- a view, whose query is not looked at
 abbrev pub create_view : Database → ViewDefinition → Checked Database

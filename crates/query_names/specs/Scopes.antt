@@ -83,7 +83,8 @@ table_scope t = with_rowid_at t.rowid_column (map column_scope t.columns)
 abbrev pub table_source : Name → Table → ScopeSource
 table_source n t = source_of (folded n) (good (table_scope t, true))
 
-abbrev places_from : ℕ → Name → List ScopeColumn → List ℕ
+-- the places of the columns of that name, counted from i
+abbrev pub places_from : ℕ → Name → List ScopeColumn → List ℕ
 places_from i n [] = []
 places_from i n (c ∷ cs) =
     let rest = places_from (suc i) n cs in

@@ -32,14 +32,17 @@ columns_of_object view _ = bad ([], false) NoSuch
 abbrev pub unless_around : List Name → Name → Checked (List ScopeColumn × Bool) → Checked (List ScopeColumn × Bool)
 unless_around around name k = if list_any (is_same_name name) around then bad ([], false) Misuse else k
 
+-- the columns of a view's query under the names of the view's list, which are as many where the query's number is known
+abbrev pub view_columns : View → Checked Reading → Checked (List ScopeColumn × Bool)
+view_columns v k =
+    k and_then λ q.
+    unless (nat_lt 0 (length v.columns) && not q.is_open && not (length v.columns == length q.columns)) Misuse (good (renamed v.columns q.columns, false))
+
 -- the columns of a table or a view, with room for so many views one within another; around are the views that this one stands in
 abbrev pub columns_of : ℕ → Database → List Name → Name → Checked (List ScopeColumn × Bool)
 columns_of zero db around name = columns_of_object (λ v. unless_around around name (bad ([], false) TooLong)) (object db name)
 columns_of (suc n) db around name =
-    columns_of_object (λ v. unless_around around name (
-    resolve_query (columns_of n db (folded name ∷ around)) [] v.query and_then λ q.
-    unless (nat_lt 0 (length v.columns) && not q.is_open && not (length v.columns == length q.columns)) Misuse (good (renamed v.columns q.columns, false))))
-    (object db name)
+    columns_of_object (λ v. unless_around around name (view_columns v (resolve_query (columns_of n db (folded name ∷ around)) [] v.query))) (object db name)
 
 -- 64 views stand one within another
 abbrev pub look_up : Database → Lookup

@@ -38,7 +38,7 @@ pub fn bind_name(
 }
 
 /// The refusal of a name that fits two columns.
-fn ambiguous(alloc: Global, name: &Name) -> Fault
+pub fn ambiguous(alloc: Global, name: &Name) -> Fault
     ensures { (result ≡ Fault.Memory) ⊎ (refusal_of result ≡ refusal.Ambiguous) }
 {
     match name.copy(alloc) {

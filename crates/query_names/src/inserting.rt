@@ -50,7 +50,7 @@ fn has_name(names: &[Name], name: &Name) -> bool
 }
 
 /// Whether a name stands twice in a list.
-pub(crate) fn has_doubled(names: &[Name]) -> bool
+pub fn has_doubled(names: &[Name]) -> bool
     ensures { result ≡ is_doubled names.now }
 {
     let mut rest = names;

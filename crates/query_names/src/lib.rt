@@ -17,18 +17,18 @@ mod scope;
 
 ghost use Rattle.query_names.specs.Comprehension.{IsComprehension};
 ghost use Rattle.query_names.specs.Creating.{KeepsNamesOnce, MakesListedTable, RefusesTableAsDefined};
-ghost use Rattle.query_names.specs.Laws.{CalmIsNotRefused, KnowsListed};
+ghost use Rattle.query_names.specs.Laws.{CalmIsNotRefused, KnowsListed, SourcesAreKnown, ViewsAreKnown};
 
 use catalog::listed_tables_are_found;
 pub use checks::bind_checks;
-pub use columns::cell_of;
+pub use columns::{ambiguous, cell_of};
 pub use definitions::bind_columns;
 pub use expressions::bind_term;
 pub use functions::collation_named;
-pub use inserting::{BoundInsert, Target, bind_target};
+pub use inserting::{BoundInsert, Target, bind_target, has_doubled};
 pub use keys::{BoundKeys, automatic_name, bind_keys};
 pub use names::{find_table, missing};
-pub use queries::BoundSource;
+pub use queries::{BoundSource, Origin};
 pub use reading::{Condition, Reading};
 pub use scope::{ScopeColumn, ScopeSource, folded, scope_column};
 
@@ -43,12 +43,24 @@ pub fn plain_query_is_a_comprehension()
     ensures { IsComprehension }
 {}
 
-/// The tables that a catalog lists of a database are those that its names are looked up among.
+/// What a name stands for on a database is the table, or else the view, that a catalog lists under it, and that view's query is looked up
+/// among what the catalog lists.
 pub fn listed_tables_are_known()
     ensures { KnowsListed }
 {
     listed_tables_are_found();
 }
+
+/// Each source of a query that isn't refused names a table or a view that isn't refused.
+pub fn sources_are_known()
+    ensures { SourcesAreKnown }
+{}
+
+/// The query of a view that isn't refused where it is used isn't refused by itself, and reads what isn't refused either, with room for one
+/// view less within another.
+pub fn views_are_known()
+    ensures { ViewsAreKnown }
+{}
 
 /// A CREATE TABLE, beside listed tables, makes the table of the definition's columns, CHECKs and keys, with the indexes that these ask for, or
 /// is refused for each cause that there is.

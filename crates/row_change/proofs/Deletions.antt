@@ -15,8 +15,8 @@ use Rattle.sqlval.specs.declared.value.Value.{Value}
 use Rattle.sqlval.specs.declared.value.Value.TheVariants.{Null, Int, Text, Blob}
 use Rattle.catalog.specs.Database as database
 use Rattle.catalog.specs.Database.{Name, Database, Object, ATable, AnIndex, AView, ATrigger, name_order, object, row, with_object, without_row}
-use Rattle.catalog.specs.Laws.{KeepsOnlyPlain}
-use Rattle.catalog.specs.Listed.{has_only_plain, with_rows}
+use Rattle.catalog.specs.Laws.{KeepsNoTrigger}
+use Rattle.catalog.specs.Listed.{has_no_trigger, with_rows}
 use Rattle.catalog.specs.Named.{IsNamed, KeepsNamed, OneDatabase}
 use Rattle.catalog.specs.declared.tables.Table.{Table}
 use Rattle.row_scan.specs.Rows.{TableRow}
@@ -126,15 +126,15 @@ module _ (fire : Fire) (name : Name) (table : Table) (still : IsStill fire) (kee
   abbrev having_rows : Database → List TableRow → Database
   having_rows db rows = with_object db name (ATable (with_rows table rows))
 
-  row_goes : (db : Database) (r : TableRow) (rows : List TableRow) → has_only_plain db ≡ true → table_of db name ≡ Ok (with_rows table (r ∷ rows)) → Rises (r ∷ rows)
+  row_goes : (db : Database) (r : TableRow) (rows : List TableRow) → has_no_trigger db ≡ true → table_of db name ≡ Ok (with_rows table (r ∷ rows)) → Rises (r ∷ rows)
       → delete_row fire name db r.0 ≡ Ok (having_rows db rows)
   row_goes db r rows only is rises =
       let found : row (with_rows table (r ∷ rows)) r.0 ≡ Some r.1 = found_first r rows in
       let gone : without_row r.0 (with_rows table (r ∷ rows)) ≡ with_rows table rows = ap (with_rows table) (first_gone r rows rises) in
-      let later : has_only_plain (having_rows db rows) ≡ true = keeps db name (with_rows table rows) only in
+      let later : has_no_trigger (having_rows db rows) ≡ true = keeps db name (with_rows table rows) only in
       rw (is, found, still, is, found, same_values r.1, gone, still, ◌then◌) refl
 
-  folds : (rows : List TableRow) (db : Database) → has_only_plain db ≡ true → table_of db name ≡ Ok (with_rows table rows) → Rises rows → having_rows db rows ≡ db
+  folds : (rows : List TableRow) (db : Database) → has_no_trigger db ≡ true → table_of db name ≡ Ok (with_rows table rows) → Rises rows → having_rows db rows ≡ db
       → fold_answer (delete_row fire name) db (map (λ row. row.0) rows) ≡ Ok (having_rows db [])
   folds [] db only is rises there = ap (λ (d : Database). Ok d) (sym there)
   folds (r ∷ rows) db only is rises there =
@@ -147,12 +147,12 @@ module _ (fire : Fire) (name : Name) (table : Table) (still : IsStill fire) (kee
 
   -- ---- some rows
 
-  row_leaves : (db : Database) (kept : List TableRow) (r : TableRow) (rows : List TableRow) → has_only_plain db ≡ true → table_of db name ≡ Ok (with_rows table (kept ++ (r ∷ rows))) → Rises (kept ++ (r ∷ rows))
+  row_leaves : (db : Database) (kept : List TableRow) (r : TableRow) (rows : List TableRow) → has_no_trigger db ≡ true → table_of db name ≡ Ok (with_rows table (kept ++ (r ∷ rows))) → Rises (kept ++ (r ∷ rows))
       → delete_row fire name db r.0 ≡ Ok (having_rows db (kept ++ rows))
   row_leaves db kept r rows only is rises =
       let found : row (with_rows table (kept ++ (r ∷ rows))) r.0 ≡ Some r.1 = found_behind kept r rows rises in
       let gone : without_row r.0 (with_rows table (kept ++ (r ∷ rows))) ≡ with_rows table (kept ++ rows) = ap (with_rows table) (gone_behind kept r rows rises) in
-      let later : has_only_plain (having_rows db (kept ++ rows)) ≡ true = keeps db name (with_rows table (kept ++ rows)) only in
+      let later : has_no_trigger (having_rows db (kept ++ rows)) ≡ true = keeps db name (with_rows table (kept ++ rows)) only in
       rw (is, found, still, is, found, same_values r.1, gone, still, ◌then◌) refl
 
   module _ (gone : TableRow → Bool) where
@@ -162,7 +162,7 @@ module _ (fire : Fire) (name : Name) (table : Table) (still : IsStill fire) (kee
     abbrev Folded : Database → List TableRow → List TableRow → Type 0
     Folded db kept rows = fold_answer (delete_row fire name) db (map (λ row. row.0) (filter gone rows)) ≡ Ok (having_rows db (kept ++ filter stays rows))
 
-    folds_some : (rows : List TableRow) (kept : List TableRow) (db : Database) → has_only_plain db ≡ true → table_of db name ≡ Ok (with_rows table (kept ++ rows)) → Rises (kept ++ rows) → having_rows db (kept ++ rows) ≡ db
+    folds_some : (rows : List TableRow) (kept : List TableRow) (db : Database) → has_no_trigger db ≡ true → table_of db name ≡ Ok (with_rows table (kept ++ rows)) → Rises (kept ++ rows) → having_rows db (kept ++ rows) ≡ db
         → Folded db kept rows
     folds_some [] kept db only is rises there = ap (λ (d : Database). Ok d) (sym there)
     folds_some (r ∷ rows) kept db only is rises there = by_test (λ now there_now. folds_some rows now there_now) (gone r) refl
@@ -173,7 +173,7 @@ module _ (fire : Fire) (name : Name) (table : Table) (still : IsStill fire) (kee
         joined : (after : List TableRow) → (kept ++ (r ∷ [])) ++ after ≡ kept ++ (r ∷ after)
         joined after = append_assoc kept (r ∷ []) after
 
-        by_test : ((now : List TableRow) (d : Database) → has_only_plain d ≡ true → table_of d name ≡ Ok (with_rows table (now ++ rows)) → Rises (now ++ rows) → having_rows d (now ++ rows) ≡ d → Folded d now rows)
+        by_test : ((now : List TableRow) (d : Database) → has_no_trigger d ≡ true → table_of d name ≡ Ok (with_rows table (now ++ rows)) → Rises (now ++ rows) → having_rows d (now ++ rows) ≡ d → Folded d now rows)
             → (test : Bool) → gone r ≡ test → Folded db kept (r ∷ rows)
         by_test on true it =
             rw (it)
@@ -186,10 +186,10 @@ module _ (fire : Fire) (name : Name) (table : Table) (still : IsStill fire) (kee
             (subst (λ (l : List TableRow). having_rows db l ≡ db) (sym (joined rows)) there)
             ∙ ap (λ (l : List TableRow). Ok (having_rows db l)) (joined (filter stays rows)))
 
-pub deletes_some : KeepsOnlyPlain → OneDatabase → KeepsNamed → DeletesSome
+pub deletes_some : KeepsNoTrigger → OneDatabase → KeepsNamed → DeletesSome
 deletes_some keeps one named fire name db table rows gone still only in_order is fit =
     folds_some fire name table still (tables_kept keeps) gone rows [] db only is (fit_rows_rise (with_rows table rows) fit) (put_itself one named db name (with_rows table rows) in_order is)
 
-pub deletes_rows : KeepsOnlyPlain → OneDatabase → KeepsNamed → DeletesRows
+pub deletes_rows : KeepsNoTrigger → OneDatabase → KeepsNamed → DeletesRows
 deletes_rows keeps one named fire name db table rows still only in_order is fit =
     folds fire name table still (tables_kept keeps) rows db only is (fit_rows_rise (with_rows table rows) fit) (put_itself one named db name (with_rows table rows) in_order is)

@@ -13,8 +13,8 @@ use Rattle.sqlval.specs.declared.value.Value.{Value}
 use Rattle.sqlval.specs.declared.value.Value.TheVariants.{Null, Int, Text, Blob}
 use Rattle.catalog.specs.Database as database
 use Rattle.catalog.specs.Database.{Name, Database, Object, ATable, object, with_object, name_order}
-use Rattle.catalog.specs.Laws.{KeepsOnlyPlain}
-use Rattle.catalog.specs.Listed.{with_rows, as_column, has_only_plain, own_column}
+use Rattle.catalog.specs.Laws.{KeepsNoTrigger}
+use Rattle.catalog.specs.Listed.{with_rows, as_column, has_no_trigger, own_column}
 use Rattle.catalog.specs.declared.tables.Table.{Table}
 use Rattle.row_scan.specs.Rows.{TableRow}
 use Rattle.row_change.specs.Agreement.{HasIndexesOf, InsertsRows, IsSetFor, IsStill}
@@ -30,9 +30,9 @@ use Rattle.row_change.proofs.Rising.{Rises, fit_rows_rise, greatest_is_last, nex
 
 -- a table in place of another keeps a database plain
 abbrev pub KeepsTables : Type 0
-KeepsTables = (db : Database) (name : Name) (table : database.Table) → has_only_plain db ≡ true → has_only_plain (with_object db name (ATable table)) ≡ true
+KeepsTables = (db : Database) (name : Name) (table : database.Table) → has_no_trigger db ≡ true → has_no_trigger (with_object db name (ATable table)) ≡ true
 
-pub tables_kept : KeepsOnlyPlain → KeepsTables
+pub tables_kept : KeepsNoTrigger → KeepsTables
 tables_kept keeps db name table only = keeps db name (ATable table) only refl
 
 next_of : (table : Table) (rows : List TableRow) → Rises rows → next_rowid (with_rows table rows) ≡ rowid_after (last_rowid rows)
@@ -118,7 +118,7 @@ module _ (fire : Fire) (name : Name) (places : List ℕ) (table : Table) (by_col
   then_all (Ok x) f g = refl
   then_all (Err r) f g = refl
 
-  row_changes : (db : Database) (rows : List TableRow) (given : List Value) → has_only_plain db ≡ true → HasIndexesOf db name table → table_of db name ≡ Ok (with_rows table rows) → Rises rows
+  row_changes : (db : Database) (rows : List TableRow) (given : List Value) → has_no_trigger db ≡ true → HasIndexesOf db name table → table_of db name ≡ Ok (with_rows table rows) → Rises rows
       → IsSetFor table by_column places given → insert_row fire name places db given ≡ with_one db rows (admitted_to rows given)
   row_changes db rows given only has is rises set = by_values (row_stored table.columns by_column given) refl
     where
@@ -145,7 +145,7 @@ module _ (fire : Fire) (name : Name) (places : List ℕ) (table : Table) (by_col
           let next : new_rowid (with_rows table rows) (given_rowid (with_rows table rows) values) ≡ Ok rowid = ap (new_rowid (with_rows table rows)) (given_is table rows values) ∙ (new_is table rows (own_value own values) rises ∙ h) in
           let there : stored db name (with_rows table rows) rowid (with_rowid (with_rows table rows) rowid values) ≡ Ok (having_rows db (put int_cmp row.0 row.1 rows)) =
           stored_so rowid values ∙ ap (with_one db rows) k in
-          let later : has_only_plain (having_rows db (put int_cmp row.0 row.1 rows)) ≡ true = keeps db name (with_rows table (put int_cmp row.0 row.1 rows)) only in
+          let later : has_no_trigger (having_rows db (put int_cmp row.0 row.1 rows)) ≡ true = keeps db name (with_rows table (put int_cmp row.0 row.1 rows)) only in
           rw (is, stored_is, e, still, is, next, there, still, h, k) refl
       by_admitted values rowid e h (Err r) k =
           let next : new_rowid (with_rows table rows) (given_rowid (with_rows table rows) values) ≡ Ok rowid = ap (new_rowid (with_rows table rows)) (given_is table rows values) ∙ (new_is table rows (own_value own values) rises ∙ h) in
@@ -203,7 +203,7 @@ module _ (fire : Fire) (name : Name) (places : List ℕ) (table : Table) (by_col
           (one_inserted rows given rest ∙ ap (λ (a : Answer TableRow). a then λ row. rows_inserted table by_column (put int_cmp row.0 row.1 rows) rest) e))
 
   -- row by row, where the table already is in the database
-  folds : (given : List (List Value)) (db : Database) (rows : List TableRow) → has_only_plain db ≡ true → HasIndexesOf db name table → table_of db name ≡ Ok (with_rows table rows) → Rises rows
+  folds : (given : List (List Value)) (db : Database) (rows : List TableRow) → has_no_trigger db ≡ true → HasIndexesOf db name table → table_of db name ≡ Ok (with_rows table rows) → Rises rows
       → All (IsSetFor table by_column places) given → having_rows db rows ≡ db → fold_answer (insert_row fire name places) db given ≡ changed db rows given
   folds [] db rows only has is rises set there = ap (λ (d : Database). Ok d) (sym there)
   folds (g ∷ given) db rows only has is rises set there =
@@ -212,7 +212,7 @@ module _ (fire : Fire) (name : Name) (places : List ℕ) (table : Table) (by_col
       (indexes_stay db name table (with_rows table rows) (with_rows table (put int_cmp row.0 row.1 rows)) is has) (put_there db name (with_rows table (put int_cmp row.0 row.1 rows))) (rises_put row.0 row.1 rows rises)
       (λ k d lt. set (suc k) d (omega (arith, lt))) (put_again (folded name) (ATable (with_rows table (put int_cmp row.0 row.1 rows))) (ATable (with_rows table (put int_cmp row.0 row.1 rows))) db))
 
-  some_rows : (given : List (List Value)) (db : Database) (rows : List TableRow) → has_only_plain db ≡ true → HasIndexesOf db name table → table_of db name ≡ Ok (with_rows table rows) → Rises rows
+  some_rows : (given : List (List Value)) (db : Database) (rows : List TableRow) → has_no_trigger db ≡ true → HasIndexesOf db name table → table_of db name ≡ Ok (with_rows table rows) → Rises rows
       → All (IsSetFor table by_column places) given → 1 ≤ length given → fold_answer (insert_row fire name places) db given ≡ changed db rows given
   some_rows [] db rows only has is rises set some = absurd (omega (arith, some))
   some_rows (g ∷ given) db rows only has is rises set some =
@@ -221,6 +221,6 @@ module _ (fire : Fire) (name : Name) (places : List ℕ) (table : Table) (by_col
       (indexes_stay db name table (with_rows table rows) (with_rows table (put int_cmp row.0 row.1 rows)) is has) (put_there db name (with_rows table (put int_cmp row.0 row.1 rows))) (rises_put row.0 row.1 rows rises)
       (λ k d lt. set (suc k) d (omega (arith, lt))) (put_again (folded name) (ATable (with_rows table (put int_cmp row.0 row.1 rows))) (ATable (with_rows table (put int_cmp row.0 row.1 rows))) db))
 
-pub inserts_rows : KeepsOnlyPlain → InsertsRows
+pub inserts_rows : KeepsNoTrigger → InsertsRows
 inserts_rows keeps fire name places db table by_column rows given still only has is fit set some =
     some_rows fire name places table by_column still (tables_kept keeps) given db rows only has is (fit_rows_rise (with_rows table rows) fit) set some

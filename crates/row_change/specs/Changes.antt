@@ -48,12 +48,12 @@ abbrev all_places : ℕ → List ScopeColumn → List ℕ
 all_places i [] = []
 all_places i (c ∷ cs) = i ∷ all_places (suc i) cs
 
-abbrev insert_places : ScopeSource → Option (List Name) → Checked (List ℕ)
+abbrev pub insert_places : ScopeSource → Option (List Name) → Checked (List ℕ)
 insert_places s None = good (all_places 0 s.columns)
 insert_places s (Some ns) = resolve_places s ns
 
 -- how many values are wanted, where that is known
-abbrev wanted : ScopeSource → Option (List Name) → Option ℕ
+abbrev pub wanted : ScopeSource → Option (List Name) → Option ℕ
 wanted s None = if s.is_known then Some (length s.columns) else None
 wanted s (Some ns) = Some (length ns)
 
@@ -69,11 +69,11 @@ resolve_given db outer n (source.Rows rows) =
 resolve_given db outer n (source.Query q) =
     resolve_query (look_up db) outer.scope q and_then λ r. unless (not r.is_open && differs n (length r.results)) Misuse (good (GivenQuery r))
 
-abbrev resolve_sets : List ScopeSource → ScopeSource → List Assignment → Checked (List (ℕ × Term))
+abbrev pub resolve_sets : List ScopeSource → ScopeSource → List Assignment → Checked (List (ℕ × Term))
 resolve_sets scope s sets = both zip (resolve_places s (map (λ x. x.column) sets)) (known_all (map (λ x. resolve false scope x.value) sets))
 
 -- the table or view that a change is for, as a source
-abbrev target : Database → Name → Checked ScopeSource
+abbrev pub target : Database → Name → Checked ScopeSource
 target db n = noted (look_up db n) and_then λ found. good (source_of (folded n) found)
 
 -- what UPDATE and DELETE see of a row

@@ -110,6 +110,7 @@ write_outcome_of (write.Update u) m n k is = ap (write_outcome m n (change_made 
 write_outcome_of (write.Drop kind name) m n k is = ap (write_outcome m n (change_made (written (write.Drop kind name)))) is
 write_outcome_of (write.CreateTable sql d) m n k is = ap (write_outcome m n (change_made (written (write.CreateTable sql d)))) is
 write_outcome_of (write.CreateIndex sql d) m n k is = ap (write_outcome m n (change_made (written (write.CreateIndex sql d)))) is
+write_outcome_of (write.CreateView sql d) m n k is = ap (write_outcome m n (change_made (written (write.CreateView sql d)))) is
 
 module _ (m : Machine) (n : ℕ) (free : another is_writing m n ≡ false) where
   not_busy : (o : Outcome) → unless_busy m n o ≡ o

@@ -16,7 +16,6 @@ use Rattle.wal.specs.declared.log.Snapshot.{Snapshot}
 use Rattle.catalog.specs.Database.{Database}
 use Rattle.session.specs.SavedTables.{HasNoSavepoints, IsUnchanged, Savepoints, committed_in, current_in}
 use Rattle.session.specs.declared.savepoints.SavedCatalogs.{SavedCatalogs}
-use Rattle.catalog.specs.declared.tables.Table.{Table}
 use Rattle.pager.specs.Marks.{Changes}
 use Rattle.pager.specs.Views.{ViewHas, IsViewPage, View, newest_view, view_at, view_of}
 use Rattle.pager.specs.Writers.{IsBegun, seen, snapshot_of}
@@ -42,9 +41,10 @@ use Rattle.session.proofs.Parking.{busy_so}
 use Rattle.session.proofs.Settled.{as_shown, crash_keeps, not_longer}
 use Rattle.session.proofs.Showing.{begins_in, idle_first, moved, still_shown}
 use Rattle.session.proofs.Stepping.{begin_outcome, begun_as, busy_begin, by_outcome, free_begin, instead}
+use Rattle.catalog.specs.Listed.{Listed}
 
 -- views of the same pages hold the same
-pub same_stores : (v w : View) (tables : List Table) (db : Database) → w.page_size ≡ v.page_size → w.size ≡ v.size → ((number : ℕ) (bytes : List ℕ) → ViewHas w number bytes ↔ ViewHas v number bytes) → ShowsDatabase v tables db → ShowsDatabase w tables db
+pub same_stores : (v w : View) (tables : Listed) (db : Database) → w.page_size ≡ v.page_size → w.size ≡ v.size → ((number : ℕ) (bytes : List ℕ) → ViewHas w number bytes ↔ ViewHas v number bytes) → ShowsDatabase v tables db → ShowsDatabase w tables db
 same_stores v w tables db sized long same held = record {
   stored = subst (λ (map : PageMap). Stores map w.page_size tables db) (sym (maps_alike w v long same))
       (subst (λ (n : ℕ). Stores (pages_in v) n tables db) (sym sized) held.stored);
@@ -102,7 +102,7 @@ module _ {D : Type 0} {g : Ghosts D} where
 
   -- the newest tables are those that a transaction without a snapshot sees
   pub newest_listed : (c : Connections D g) (m : Machine) (shown : RepresentsRunning c m) → committed_in c.catalog ≡ newest_tables c → ShowsDatabase (newest_view (files_of c)) (committed_in c.catalog) (newest m)
-  newest_listed c m shown same = subst (λ (ts : List Table). ShowsDatabase (newest_view (files_of c)) ts (newest m)) (sym same) shown.stored
+  newest_listed c m shown same = subst (λ (ts : Listed). ShowsDatabase (newest_view (files_of c)) ts (newest m)) (sym same) shown.stored
 
   -- the writer that begins may commit over the newest commit
   pub writer_begins : (old new : Connections D g) (w : Writer) (s : Snapshot) → StartsWriting old new w s → IsSizeWithinLimits (newest_view (files_of old)).page_size (newest_view (files_of old)).size → IsWriter (files_of new) w
@@ -116,7 +116,7 @@ module _ {D : Type 0} {g : Ghosts D} where
     page_size = start.begun.page_size ∙ ap (λ (k : LogState). k.page_size) (sym start.files.known);
   }
 
-  pub writer_stores : (old new : Connections D g) (w : Writer) (s : Snapshot) (tables : List Table) (db : Database) → StartsWriting old new w s → ShowsDatabase (newest_view (files_of old)) tables db → ShowsDatabase (view_of (files_of new) w) tables db
+  pub writer_stores : (old new : Connections D g) (w : Writer) (s : Snapshot) (tables : Listed) (db : Database) → StartsWriting old new w s → ShowsDatabase (newest_view (files_of old)) tables db → ShowsDatabase (view_of (files_of new) w) tables db
   writer_stores old new w s tables db start held =
       subst (λ (v : View). ShowsDatabase (seen v w) tables db) (sym (ap (view_at (files_of new)) start.stands ∙ start.files.at s))
       (same_stores (view_at (files_of old) s) (seen (view_at (files_of old) s) w) tables db refl start.begun.size start.begun.sees
@@ -138,7 +138,7 @@ module _ {D : Type 0} {g : Ghosts D} where
               is = begins_in Changes new.catalog (Writes (last_place m) (newest m)) (subst HasNoSavepoints (sym start.catalog) was.1);
               may = writer_begins old new w s start shown.stored.served;
               stored = subst (λ (c : SavedCatalogs). ShowsDatabase (view_of (files_of new) w) (current_in c) (newest m)) (sym start.catalog)
-                  (writer_stores old new w s (current_in old.catalog) (newest m) start (subst (λ (ts : List Table). ShowsDatabase (newest_view (files_of old)) ts (newest m)) (sym was.0) base));
+                  (writer_stores old new w s (current_in old.catalog) (newest m) start (subst (λ (ts : Listed). ShowsDatabase (newest_view (files_of old)) ts (newest m)) (sym was.0) base));
               saved = record { tables = ap (λ (p : Savepoints). p.points) (subst HasNoSavepoints (sym start.catalog) was.1); hold = tt };
               marks = start.begun.marks;
               base = subst (λ (v : View). ShowsDatabase v (committed_in new.catalog) (newest m)) (sym start.files.newest)

@@ -10,7 +10,6 @@ use Rattle.catalog.specs.Database.{Database}
 use Rattle.session.specs.SavedTables.{committed_in, current_in, savepoints_in}
 use Rattle.catalog.specs.declared.tables.Catalog.{Catalog}
 use Rattle.session.specs.declared.savepoints.SavedCatalogs.{SavedCatalogs}
-use Rattle.catalog.specs.declared.tables.Table.{Table}
 use Rattle.wal.specs.LogState.{LogState}
 use Rattle.wal.specs.Sizes.{IsSizeWithinLimits}
 use Rattle.wal.specs.declared.log.Log.{Log}
@@ -26,7 +25,7 @@ use Rattle.pager.specs.Marks.{Changes, IsOverTheSame, now_of}
 use Rattle.pager.proofs.Sounding.{sound_alike, sound_from, sound_to}
 use Rattle.pager.proofs.WriterSights.{map_told}
 use Rattle.executor.specs.Changing as pages
-use Rattle.executor.specs.Writes.{tables_then}
+use Rattle.executor.specs.Writes.{listed_then}
 use Rattle.db_pages.specs.Stored.{Stores}
 use Rattle.session.specs.Changing.{CanChange, ChangesPages, Listing, MakesCatalog, listing}
 use Rattle.session.specs.Representation.{ShowTheSame}
@@ -35,6 +34,7 @@ use Rattle.session.specs.Stored.{ShowsDatabase}
 use Rattle.session.proofs.KeptFiles.{changes_stored, changes_told, files_kept}
 use Rattle.session.proofs.Settled.{still_settled}
 use Rattle.session.proofs.Showing.{still_newest}
+use Rattle.catalog.specs.Listed.{Listed}
 
 -- no more pages than there may be are within the limits
 pub few_pages : (pages page_size : ℕ) → pages ≤ most_of page_size → IsSizeWithinLimits page_size pages
@@ -121,7 +121,7 @@ module _ {D : Type 0} {g : Ghosts D} where
         (few_pages (pages_of v) (page_size_of v) (sound_still is.sound).within)
 
     -- what the pages hold then is what the writer sees
-    stored_now : (tables : List Table) (made : Database) → ShowTheSame old new → IsWriter old w → Stores (map_over (under_reader new (snapshot_of v) c d) v) (page_size_of w) tables made → ShowsDatabase (view_of new v) tables made
+    stored_now : (tables : Listed) (made : Database) → ShowTheSame old new → IsWriter old w → Stores (map_over (under_reader new (snapshot_of v) c d) v) (page_size_of w) tables made → ShowsDatabase (view_of new v) tables made
     stored_now tables made same is stored = record {
       stored = subst (λ (map : PageMap). Stores map (view_of new v).page_size tables made) (map_now same.told)
           (subst (λ (p : ℕ). Stores (map_over (under_reader new (snapshot_of v) c d) v) p tables made) (is.page_size ∙ ap (λ (k : LogState). k.page_size) (sym same.known)) stored);
@@ -152,17 +152,17 @@ module _ {D : Type 0} {g : Ghosts D} where
         record { kept = record { files = shows_same on.told; tables = keeps; savepoints = points }; tables = refused; why = makes db (stored_over old catalog w db a b on) }
 
     -- the same of a call on the current catalog that answers another, or none where the tables stay
-    pub changed_to : (s : Statement) (catalog : SavedCatalogs) (db : Database) (tables : List Table) (r : Result (Option Catalog) Fault) → CanChange (listing old catalog) w db → tables ≡ current_in catalog
-        → pages.MakesChange (tables_then tables) s (map_over (under_reader old (snapshot_of w) a b) w) (map_over (under_reader new (snapshot_of v) c d) v) (page_size_of w) tables r
+    pub changed_to : (s : Statement) (catalog : SavedCatalogs) (db : Database) (tables : Listed) (r : Result (Option Catalog) Fault) → CanChange (listing old catalog) w db → tables ≡ current_in catalog
+        → pages.MakesChange (listed_then tables) s (map_over (under_reader old (snapshot_of w) a b) w) (map_over (under_reader new (snapshot_of v) c d) v) (page_size_of w) tables r
         → MakesCatalog s (listing old catalog) w db r new v
     changed_to s catalog db tables (Ok None) on same makes =
         changed s catalog catalog db (Ok tt) on refl refl
-        (λ base held. subst (λ (ts : List Table). pages.IsMade s base (map_over (under_reader new (snapshot_of v) c d) v) (page_size_of w) ts) same
-        (makes base (subst (λ (ts : List Table). Stores (map_over (under_reader old (snapshot_of w) a b) w) (page_size_of w) ts base) (sym same) held))) tt
+        (λ base held. subst (λ (ts : Listed). pages.IsMade s base (map_over (under_reader new (snapshot_of v) c d) v) (page_size_of w) ts) same
+        (makes base (subst (λ (ts : Listed). Stores (map_over (under_reader old (snapshot_of w) a b) w) (page_size_of w) ts base) (sym same) held))) tt
     changed_to s catalog db tables (Ok (Some made)) on same makes = λ next now kept points.
         changed s catalog next db (Ok tt) on kept points
-        (λ base held. subst (λ (ts : List Table). pages.IsMade s base (map_over (under_reader new (snapshot_of v) c d) v) (page_size_of w) ts) (sym now)
-        (makes base (subst (λ (ts : List Table). Stores (map_over (under_reader old (snapshot_of w) a b) w) (page_size_of w) ts base) (sym same) held))) tt
+        (λ base held. subst (λ (ts : Listed). pages.IsMade s base (map_over (under_reader new (snapshot_of v) c d) v) (page_size_of w) ts) (sym now)
+        (makes base (subst (λ (ts : Listed). Stores (map_over (under_reader old (snapshot_of w) a b) w) (page_size_of w) ts base) (sym same) held))) tt
     changed_to s catalog db tables (Err f) on same makes =
         changed s catalog catalog db (Err f) on refl refl
-        (λ base held. makes base (subst (λ (ts : List Table). Stores (map_over (under_reader old (snapshot_of w) a b) w) (page_size_of w) ts base) (sym same) held)) refl
+        (λ base held. makes base (subst (λ (ts : Listed). Stores (map_over (under_reader old (snapshot_of w) a b) w) (page_size_of w) ts base) (sym same) held)) refl

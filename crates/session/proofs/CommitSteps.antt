@@ -14,7 +14,6 @@ use Rattle.catalog.specs.Database.{Database}
 use Rattle.session.specs.SavedTables.{Savepoints, committed_in, current_in, savepoints_in}
 use Rattle.session.specs.Saving.{in_transaction, states_of}
 use Rattle.session.specs.declared.savepoints.SavedCatalogs.{SavedCatalogs}
-use Rattle.catalog.specs.declared.tables.Table.{Table}
 use Rattle.wal.specs.LogState.{seen_by, state_of}
 use Rattle.wal.specs.declared.log.Log.{Log}
 use Rattle.pager.specs.Views.{Tells, View, newest_view, view_at, view_of}
@@ -43,6 +42,7 @@ use Rattle.session.proofs.Parking.{get_set, one_set, set_length, set_twice}
 use Rattle.session.proofs.Marked.{over_on}
 use Rattle.session.proofs.ReadingPhases.{ReadsIn, reads_in}
 use Rattle.session.proofs.Stepping.{by_outcome, commit_outcome_of, instead}
+use Rattle.catalog.specs.Listed.{Listed}
 
 -- a committed database is where it was
 longer : (history : List Database) (db : Database) (i : ℕ) → i < length history → committed_at (history ++ db ∷ []) i ≡ committed_at history i
@@ -226,7 +226,7 @@ module _ {D : Type 0} {g : Ghosts D} where
       };
       marks = is.marks ∙ on.marks;
       base = subst (λ (v : View). ShowsDatabase v (committed_in new.catalog) (newest m)) (sym same.newest)
-          (subst (λ (ts : List Table). ShowsDatabase (newest_view (files_of old)) ts (newest m)) (sym (is.kept.tables ∙ ap committed_in catalog)) on.base);
+          (subst (λ (ts : Listed). ShowsDatabase (newest_view (files_of old)) ts (newest m)) (sym (is.kept.tables ∙ ap committed_in catalog)) on.base);
     })
       where
         on : IsWritingIn (files_of old) old.catalog m.history w in_writing.shown.present

@@ -15,7 +15,6 @@ use Rattle.wal.specs.declared.log.Log.{Log}
 use Rattle.catalog.specs.Database.{Database}
 use Rattle.session.specs.SavedTables.{committed_in, current_in, savepoints_in}
 use Rattle.session.specs.declared.savepoints.SavedCatalogs.{SavedCatalogs}
-use Rattle.catalog.specs.declared.tables.Table.{Table}
 use Rattle.pager.specs.Commits.{CommitsPages, IsCommittedOver, IsRefusedCommit, LeavesCommit, MayCommit}
 use Rattle.pager.specs.Limits.{pages_of}
 use Rattle.pager.specs.Pruning.{AreNew}
@@ -32,6 +31,7 @@ use Rattle.session.specs.declared.transactions.Connections.{Connections}
 use Rattle.session.proofs.FirstPages.{first_of, first_shown, shows_headed}
 use Rattle.session.proofs.Settled.{db_left, either_throughout, found_over, log_left, still_settled}
 use Rattle.session.proofs.Showing.{still_writer}
+use Rattle.catalog.specs.Listed.{Listed}
 
 -- what is within the limits of a log, is so where it is begun anew
 within_base : (known : LogState) (may_restart : Bool) (count size : ℕ) → IsWithin known count size → IsWithin (base_of known may_restart) count size
@@ -55,12 +55,12 @@ module _ {D : Type 0} {g : Ghosts D} where
   }
 
   -- a view that the commit leaves holds the database
-  stores_over : (old : Log D g) (w : Writer) (tables : List Table) (db : Database) (held : ShowsDatabase (view_of old w) tables db) (view : View) → view.page_size ≡ (newest_view old).page_size
+  stores_over : (old : Log D g) (w : Writer) (tables : Listed) (db : Database) (held : ShowsDatabase (view_of old w) tables db) (view : View) → view.page_size ≡ (newest_view old).page_size
       → IsCommittedOver old w (first_of (view_of old w)) held.stored.header view → ShowsDatabase view tables db
   stores_over old w tables db held view sized is =
       shows_headed (view_of old w) view sized is.size is.others is.first is.next is.has_first is.headed tables db held is.next_is.page_size is.next_is.freelist_trunk is.next_is.freelist_count
 
-  some_pages : (old : Log D g) (w : Writer) (tables : List Table) (db : Database) → ShowsDatabase (view_of old w) tables db → 1 ≤ pages_of w
+  some_pages : (old : Log D g) (w : Writer) (tables : Listed) (db : Database) → ShowsDatabase (view_of old w) tables db → 1 ≤ pages_of w
   some_pages old w tables db held = (first_shown (view_of old w) tables db held).last
 
   pub has_committed : (old new : Connections D g) (w : Writer) (db : Database) (applies : CanApply old w db) → CommitsPages (files_of old) (is_alone old) w (first_of (view_of (files_of old) w)) applies.stored.stored.header (files_of new)
@@ -82,7 +82,7 @@ module _ {D : Type 0} {g : Ghosts D} where
     savepoints = next.savepoints;
     renewed = anew;
     older = λ others. record { more = more others; at = is.stay (ap (λ (b : Bool). begins_anew (state_of (files_of old)) b) others) };
-    stored = subst (λ (ts : List Table). ShowsDatabase (newest_view (files_of new)) ts db) (sym next.newest) (stores_over (files_of old) w (current_in old.catalog) db applies.stored (newest_view (files_of new)) is.page_size_is is.left);
+    stored = subst (λ (ts : Listed). ShowsDatabase (newest_view (files_of new)) ts db) (sym next.newest) (stores_over (files_of old) w (current_in old.catalog) db applies.stored (newest_view (files_of new)) is.page_size_is is.left);
   }
 
   -- what a crash leaves of it

@@ -157,8 +157,8 @@ inserted = inr (inr (refl, refl, inl (inr (no_faults_behind one (insert t (numbe
 pub inserted_so_far : StepSoFar (fresh one) 1 (add 1) (Rows []) (after_commit (fresh one) 1 (with_object one t (table (col a ∷ []) ((pos 1, i 1) ∷ []))))
 inserted_so_far = inl (refl, inl inserted)
 
--- CREATE VIEW x AS SELECT 1
-pub unsupported_form : StepSoFar (fresh one) 1 (creating (new.View (record { name = x; columns = None; query = select (result (number 1) ∷ []) [] }))) (Refused Unsupported) (fresh one)
+-- CREATE TRIGGER g AFTER DELETE ON t BEGIN DELETE FROM t; END
+pub unsupported_form : StepSoFar (fresh one) 1 (creating (new.Trigger (record { name = codes "g"; time = After; event = Delete; target = t; condition = None; body = program.Change (delete t None) ∷ [] }))) (Refused Unsupported) (fresh one)
 unsupported_form = inr (refl, refl, inr (inr (refl, refl, inl refl)))
 
 -- g AFTER DELETE ON t WHEN OLD.a = 99: DELETE FROM nosuch. DELETE FROM t, where t has no row

@@ -13,7 +13,6 @@ use Rattle.db_header.proofs.Fronts.{header_moves}
 use Rattle.wal_frame.specs.declared.frame.FrameHeader.{FrameHeader}
 use Rattle.wal_frame.specs.Written.{Framed}
 use Rattle.catalog.specs.Database.{Database}
-use Rattle.catalog.specs.declared.tables.Table.{Table}
 use Rattle.wal.specs.LogState.{db_of, log_of, seen_by, size_of, state_of}
 use Rattle.wal.specs.Sizes.{IsViewSize}
 use Rattle.wal.specs.declared.log.Log.{Log}
@@ -42,6 +41,7 @@ use Rattle.session.proofs.SameViews.{same_seen, same_shown}
 use Rattle.session.proofs.SeenPages.{at_newest, one_page}
 use Rattle.session.proofs.Standing.{held_if_stored}
 use Rattle.session.proofs.StandingViews.{one_header}
+use Rattle.catalog.specs.Listed.{Listed}
 
 -- the size that a header counts, or that the file has
 size_of_file : (counted : Option ℕ) (size len page_size : ℕ) → MatchOption counted (⊤) (λ count. count ≡ size) → len ≡ size * page_size → IsViewSize [] counted len page_size size
@@ -65,7 +65,7 @@ pub record HasHeaderAt (bytes : List ℕ) (page_size : ℕ) : Type 0 where
   pub sized : header.page_size ≡ page_size
 
 -- page 1 of a view that shows a database has its header
-pub header_shown : (view : View) (tables : List Table) (db : Database) → ShowsDatabase view tables db → (page : List ℕ) → ViewHas view 1 page → HasHeaderAt page view.page_size
+pub header_shown : (view : View) (tables : Listed) (db : Database) → ShowsDatabase view tables db → (page : List ℕ) → ViewHas view 1 page → HasHeaderAt page view.page_size
 header_shown view tables db shown page has = record {
   header = shown.stored.header;
   is = subst (λ (b : List ℕ). IsHeader b shown.stored.header) (one_page view 1 (first_of view) page (first_shown view tables db shown).has has) shown.stored.header_is;
@@ -92,7 +92,7 @@ none_seen (x ∷ ss) s none (inl here) = by_transaction x.transaction (none_firs
 none_seen (x ∷ ss) s none (inr rest) = none_seen ss s (none_first (holds_snapshot x) (list_any holds_snapshot ss) none).1 rest
 
 module _ {D : Type 0} {g : Ghosts D} where
-  module _ (files : Log D g) (target : Snapshot) (tables : List Table) (database : Database) (found : IsFound (newest_view files)) (stored : ShowsDatabase (newest_view files) tables database)
+  module _ (files : Log D g) (target : Snapshot) (tables : Listed) (database : Database) (found : IsFound (newest_view files)) (stored : ShowsDatabase (newest_view files) tables database)
       (headed : (page : List ℕ) → ViewHas (view_at files target) 1 page → HasHeaderAt page (newest_view files).page_size) where
     -- page 1's header is that by which the newest view is found
     first_header : found.header ≡ stored.stored.header
@@ -213,7 +213,7 @@ module _ {D : Type 0} {g : Ghosts D} where
     pub size : (state_of new).size ≡ (state_of old).size
     pub page_size : (state_of new).page_size ≡ (state_of old).page_size
     pub within : seen_by target ≤ (state_of old).frames
-    pub newest : (tables : List Table) (db : Database) → ShowsDatabase (newest_view old) tables db → ShowsDatabase (newest_view new) tables db
+    pub newest : (tables : Listed) (db : Database) → ShowsDatabase (newest_view old) tables db → ShowsDatabase (newest_view new) tables db
     pub at : (snapshot : Snapshot) → seen_by target ≤ seen_by snapshot → seen_by snapshot ≤ (state_of old).frames
         → (seen_by snapshot ≡ (state_of old).frames → size_of snapshot ≡ (state_of old).size) → ShowsSame (view_at old snapshot) (view_at new snapshot)
 
@@ -224,7 +224,7 @@ module _ {D : Type 0} {g : Ghosts D} where
     moved_writer : (w : Writer) → IsWriter old w → IsWriter new w
     moved_writer w is = record { newest = moved_newest (snapshot_of w) is.newest; sound = is.sound; page_size = is.page_size ∙ sym keeps.page_size }
 
-    moved_stored : (w : Writer) (tables : List Table) (db : Database) → IsWriter old w → ShowsDatabase (view_of old w) tables db → ShowsDatabase (view_of new w) tables db
+    moved_stored : (w : Writer) (tables : Listed) (db : Database) → IsWriter old w → ShowsDatabase (view_of old w) tables db → ShowsDatabase (view_of new w) tables db
     moved_stored w tables db is stored =
         let at = keeps.at (snapshot_of w) (omega (arith, keeps.within, is.newest.seen)) (omega (arith, is.newest.seen)) (λ all. is.newest.sized) in
         same_shown (view_of old w) (view_of new w) tables db (same_seen (view_at old (snapshot_of w)) (view_at new (snapshot_of w)) w at is.sound refl) stored
@@ -239,7 +239,7 @@ module _ {D : Type 0} {g : Ghosts D} where
       moved_marked newest w points all.1,
     )
 
-    moved_snapshot : (tables : List Table) (history : List Database) (i : ℕ) (s : Snapshot) → seen_by target ≤ seen_by s → IsSnapshotOf old tables history i s → IsSnapshotOf new tables history i s
+    moved_snapshot : (tables : Listed) (history : List Database) (i : ℕ) (s : Snapshot) → seen_by target ≤ seen_by s → IsSnapshotOf old tables history i s → IsSnapshotOf new tables history i s
     moved_snapshot tables history i s least is = record {
       shows = same_shown (view_at old s) (view_at new s) tables (committed_at history i) at is.shows;
       age = elim is.age [
@@ -295,13 +295,13 @@ module _ {D : Type 0} {g : Ghosts D} where
 
   -- it shows a database, and is the newest where it sees all frames
   pub record IsSight (files : Log D g) (s : Snapshot) : Type 0 where
-    pub tables : List Table
+    pub tables : Listed
     pub db : Database
     pub shows : ShowsDatabase (view_at files s) tables db
     pub within : seen_by s ≤ (state_of files).frames
     pub sized : seen_by s ≡ (state_of files).frames → size_of s ≡ (state_of files).size
 
-  newest_sight : (files : Log D g) (s : Snapshot) (tables : List Table) (db : Database) → IsNewest files s → ShowsDatabase (newest_view files) tables db → IsSight files s
+  newest_sight : (files : Log D g) (s : Snapshot) (tables : Listed) (db : Database) → IsNewest files s → ShowsDatabase (newest_view files) tables db → IsSight files s
   newest_sight files s tables db is shows = record {
     tables = tables;
     db = db;
@@ -335,7 +335,7 @@ module _ {D : Type 0} {g : Ghosts D} where
   seen_sight files history (x ∷ ss) (k ∷ ks) s (inl here) are = sight_of files x.catalog history x.transaction k s here are.0
   seen_sight files history (x ∷ ss) (k ∷ ks) s (inr rest) are = seen_sight files history ss ks s rest are.1
 
-  pub least_sight : (files : Log D g) (history : List Database) (ss : List Seat) (ks : List Connection) (newest target : Snapshot) (tables : List Table) (db : Database) → IsNewest files newest → IsLeast ss newest target
+  pub least_sight : (files : Log D g) (history : List Database) (ss : List Seat) (ks : List Connection) (newest target : Snapshot) (tables : Listed) (db : Database) → IsNewest files newest → IsLeast ss newest target
       → ShowsDatabase (newest_view files) tables db → AreParked files history ss ks → IsSight files target
   least_sight files history ss ks newest target tables db is least shows are = elim least.is [
     | inl same ↦ subst (IsSight files) (sym same) (newest_sight files newest tables db is shows)

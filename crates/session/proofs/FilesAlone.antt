@@ -9,7 +9,6 @@ use Rattle.db_header.specs.Header.{counted_of}
 use Rattle.db_header.specs.declared.fields.Header.{Header}
 use Rattle.db_header.proofs.Fronts.{header_moves}
 use Rattle.catalog.specs.Database.{Database}
-use Rattle.catalog.specs.declared.tables.Table.{Table}
 use Rattle.pages.specs.Map.{PageMap}
 use Rattle.wal.specs.Alone.{StandsAlone}
 use Rattle.wal.specs.Sizes.{IsViewSize}
@@ -22,6 +21,7 @@ use Rattle.db_pages.specs.Stored.{Stores}
 use Rattle.session.specs.Holding.{IsFound}
 use Rattle.session.specs.Stored.{ShowsDatabase}
 use Rattle.session.proofs.StandingViews.{one_header}
+use Rattle.catalog.specs.Listed.{Listed}
 
 pub large : (n : ℕ) → IsPageSize n → 100 ≤ n
 large = by_size (λ (n : ℕ). 100 ≤ n) (omega arith) (omega arith) (omega arith) (omega arith) (omega arith) (omega arith) (omega arith)
@@ -31,7 +31,7 @@ pub first_bytes : (db : List ℕ) (page_size : ℕ) (page : List ℕ) → IsPage
 first_bytes db page_size page size is =
     ap (take 100) (is.bytes_are ∙ ap (λ (n : ℕ). take page_size (drop n db)) (zero-mul page_size)) ∙ take-take 100 page_size db (large page_size size)
 
-module _ (view : View) (tables : List Table) (db : Database) where
+module _ (view : View) (tables : Listed) (db : Database) where
   abbrev alone_view : View
   alone_view = record view { frames = [] }
 

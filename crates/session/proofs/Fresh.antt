@@ -4,7 +4,7 @@ use Rattle.std.proofs.lemmas.Bool.{false≢true}
 use Rattle.std.specs.Prelude.{slice_set}
 use Rattle.disk.specs.declared.device.Disk.{Ghosts}
 use Rattle.catalog.specs.Database.{Database}
-use Rattle.catalog.specs.Listed.{tables_of}
+use Rattle.catalog.specs.Listed.{listed_in, Listed}
 use Rattle.pager.specs.Views.{Tells, newest_view}
 use Rattle.session.specs.Holding.{IsSettled}
 use Rattle.session.specs.ConnectionState.{files_of, has_failed_in}
@@ -25,7 +25,7 @@ idle_sole (suc n) = (λ is. absurd (false≢true is), idle_sole n)
 
 module _ {D : Type 0} {g : Ghosts D} where
   pub fresh_shown : (c : Connections D g) (seats : Seats) (db : Database) → has_failed_in c ≡ false → c.connection ≡ 1 → c.transaction ≡ transaction.Idle → c.newest ≡ seats.newest → c.catalog ≡ seats.catalog → c.parked ≡ seats.parked
-      → Tells (files_of c) → IsSettled (files_of c) → AreFresh seats → ShowsDatabase (newest_view (files_of c)) (tables_of (catalog_in seats)) db → RepresentsRunning c (fresh db)
+      → Tells (files_of c) → IsSettled (files_of c) → AreFresh seats → ShowsDatabase (newest_view (files_of c)) (listed_in (catalog_in seats)) db → RepresentsRunning c (fresh db)
   fresh_shown c seats db whole first is newest catalog parked told settled are stored = record {
     running = refl;
     sure = refl;
@@ -33,7 +33,7 @@ module _ {D : Type 0} {g : Ghosts D} where
     told = told;
     settled = settled;
     some = omega arith;
-    stored = subst (λ handle. ShowsDatabase (newest_view (files_of c)) (tables_of handle.value) db) (sym newest) stored;
+    stored = subst (λ handle. ShowsDatabase (newest_view (files_of c)) (listed_in handle.value) db) (sym newest) stored;
     sixteen = refl;
     numbered = subst (λ n. is_connection n ≡ true) (sym first) refl;
     present = Idle;

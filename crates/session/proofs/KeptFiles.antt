@@ -8,7 +8,6 @@ use Rattle.wal.specs.LogState.{db_of, log_of, seen_by, state_of}
 use Rattle.wal.specs.declared.log.Log.{Log}
 use Rattle.wal.specs.declared.log.Snapshot.{Snapshot}
 use Rattle.catalog.specs.Database.{Database}
-use Rattle.catalog.specs.declared.tables.Table.{Table}
 use Rattle.pages.specs.Map.{PageMap}
 use Rattle.pager.specs.Limits.{page_size_of}
 use Rattle.pager.specs.Maps.{pages_in}
@@ -23,6 +22,7 @@ use Rattle.session.specs.Representation.{ShowTheSame}
 use Rattle.session.specs.Writers.{IsWriter}
 use Rattle.session.specs.Stored.{ShowsDatabase}
 use Rattle.session.proofs.Showing.{read_files}
+use Rattle.catalog.specs.Listed.{Listed}
 
 some_not_none : (a : File) → Some a ≡ None → ⊥
 some_not_none a e = cc
@@ -65,7 +65,7 @@ module _ {D : Type 0} {g : Ghosts D} (files : Log D g) where
   pub snapshot_told : (s : Snapshot) (a b : ℕ) → Tells files → seen_by s ≤ (state_of files).frames → IsTrue (tells_reader (under_reader files s a b))
   snapshot_told s a b told within = tells_read files s a b told within
 
-  pub snapshot_stored : (s : Snapshot) (tables : List Table) (db : Database) (a b : ℕ) → Tells files → ShowsDatabase (view_at files s) tables db
+  pub snapshot_stored : (s : Snapshot) (tables : Listed) (db : Database) (a b : ℕ) → Tells files → ShowsDatabase (view_at files s) tables db
       → Stores (pages_in (view_under (under_reader files s a b))) (state_of files).page_size tables db
   snapshot_stored s tables db a b told shown = subst (λ (v : View). Stores (pages_in v) (state_of files).page_size tables db) (sym (view_told files s a b told)) shown.stored
 
@@ -73,7 +73,7 @@ module _ {D : Type 0} {g : Ghosts D} (files : Log D g) where
   pub changes_told : (w : Writer) (a n b : ℕ) → Tells files → IsWriter files w → IsTrue (tells_writer (under_writer files w a n b))
   changes_told w a n b told is = tells_write files w a n b is.sound is.page_size (tells_read files (snapshot_of w) a b told (omega (arith, is.newest.seen)))
 
-  pub changes_stored : (w : Writer) (tables : List Table) (db : Database) (a b : ℕ) → Tells files → IsWriter files w → ShowsDatabase (view_of files w) tables db
+  pub changes_stored : (w : Writer) (tables : Listed) (db : Database) (a b : ℕ) → Tells files → IsWriter files w → ShowsDatabase (view_of files w) tables db
       → Stores (map_over (under_reader files (snapshot_of w) a b) w) (page_size_of w) tables db
   changes_stored w tables db a b told is shown =
       subst (λ (map : PageMap). Stores map (page_size_of w) tables db) (sym (map_told files w a b told))

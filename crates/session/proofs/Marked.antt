@@ -9,7 +9,6 @@ use Rattle.sql_syntax.specs.declared.statement.Statement.{Statement}
 use Rattle.wal.specs.declared.log.Log.{Log}
 use Rattle.catalog.specs.Database.{Database}
 use Rattle.session.specs.SavedTables.{current_in}
-use Rattle.catalog.specs.declared.tables.Table.{Table}
 use Rattle.pager.specs.Limits.{pages_of}
 use Rattle.pager.specs.Marks.{Changes, IsOverTheSame, now_of}
 use Rattle.pager.specs.Views.{View, after, changes_of, view_at, view_of}
@@ -23,6 +22,7 @@ use Rattle.session.specs.Stored.{ShowsDatabase}
 use Rattle.session.specs.declared.transactions.Connections.{Connections}
 use Rattle.session.proofs.Settled.{still_settled}
 use Rattle.session.proofs.Showing.{still_writer, the_same}
+use Rattle.catalog.specs.Listed.{Listed}
 
 -- what is kept at a mark that was set last, where the marks are as they were then
 pub at_last_mark : (marks left : List Changes) (now back : Changes) (place : ℕ) → place ≡ length marks → left ≡ marks ++ now ∷ [] → ((d : Changes) → back ≡ slice_index_or left place d) → back ≡ now
@@ -74,6 +74,6 @@ module _ {D : Type 0} {g : Ghosts D} where
         told = has.kept.files.told;
         settled = still_settled (files_of old) (files_of new) has.kept.files on.settled;
         writer = still_writer (files_of old) (files_of new) w has.kept.files on.writer;
-        stored = subst (λ (ts : List Table). ShowsDatabase (view_of (files_of new) w) ts db) (sym has.tables)
+        stored = subst (λ (ts : Listed). ShowsDatabase (view_of (files_of new) w) ts db) (sym has.tables)
             (subst (λ (v : View). ShowsDatabase (after v (changes_of w) (pages_of w)) (current_in old.catalog) db) (sym (has.kept.files.at (snapshot_of w))) on.stored);
       })

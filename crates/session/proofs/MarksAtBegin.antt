@@ -5,7 +5,6 @@ use Rattle.std.specs.List.{AllByRecursion}
 use Rattle.disk.specs.declared.device.Disk.{Ghosts}
 use Rattle.wal.specs.declared.log.Log.{Log}
 use Rattle.catalog.specs.Database.{Database}
-use Rattle.catalog.specs.declared.tables.Table.{Table}
 use Rattle.pager.specs.Marks.{Changes, IsOverTheSame, now_of}
 use Rattle.pager.specs.Views.{view_of}
 use Rattle.pager.specs.declared.writer.Writer.{Writer}
@@ -14,6 +13,7 @@ use Rattle.session.specs.SavedTables.{SavedTables}
 use Rattle.session.specs.Saving.{IsMarked, IsUnwritten, SavedAs}
 use Rattle.session.specs.Stored.{ShowsDatabase}
 use Rattle.session.specs.Writers.{IsWriter}
+use Rattle.catalog.specs.Listed.{Listed}
 
 -- each savepoint with what the writer would commit when it began
 abbrev pub at_begin : Changes → List (SavedAs ⊤) → List (SavedAs Changes)
@@ -36,7 +36,7 @@ states_at_begin now (p ∷ ps) = ap (λ (ss : List SavepointState). p.state ∷ 
 
 module _ {D : Type 0} {g : Ghosts D} where
   -- a writer that goes back to where it began shows the newest database
-  pub shows_begin : (files : Log D g) (committed : List Table) (newest : Database) (now : Changes) (left : Writer) → ((u : Writer) → now_of u ≡ now → IsOverTheSame left u → IsWriter files u × ShowsDatabase (view_of files u) committed newest)
+  pub shows_begin : (files : Log D g) (committed : Listed) (newest : Database) (now : Changes) (left : Writer) → ((u : Writer) → now_of u ≡ now → IsOverTheSame left u → IsWriter files u × ShowsDatabase (view_of files u) committed newest)
       → (points : List (SavedAs ⊤)) → AllByRecursion (IsUnwritten committed) points → AllByRecursion (IsMarked files newest left) (at_begin now points)
   shows_begin files committed newest now left back [] all = tt
   shows_begin files committed newest now left back (p ∷ ps) all = (
@@ -44,7 +44,7 @@ module _ {D : Type 0} {g : Ghosts D} where
       named = all.0.named;
       back = λ u is over. (
         (back u is over).0,
-        subst (λ (ts : List Table). ShowsDatabase (view_of files u) ts (unwrap_or p.state.working newest)) (sym all.0.tables)
+        subst (λ (ts : Listed). ShowsDatabase (view_of files u) ts (unwrap_or p.state.working newest)) (sym all.0.tables)
             (subst (λ (db : Option Database). ShowsDatabase (view_of files u) committed (unwrap_or db newest)) (sym all.0.working) (back u is over).1),
       );
     },

@@ -17,7 +17,6 @@ use Rattle.wal.specs.declared.log.Log.{Log}
 use Rattle.wal.specs.declared.log.Snapshot.{Snapshot}
 use Rattle.catalog.specs.Database.{Database}
 use Rattle.session.specs.SavedTables.{committed_in, current_in, savepoints_in}
-use Rattle.catalog.specs.declared.tables.Table.{Table}
 use Rattle.db_header.specs.declared.fields.Header.{Header}
 use Rattle.pager.specs.Commits.{CommitsPages, IsRefusedCommit, LeavesCommit, MayCommit}
 use Rattle.pager.specs.Limits.{pages_of}
@@ -41,10 +40,11 @@ use Rattle.session.proofs.SeenPages.{at_newest}
 use Rattle.session.proofs.Settled.{held_from, settled_leaves, still_settled}
 use Rattle.session.proofs.Showing.{still_writer}
 use Rattle.session.proofs.Writing.{show_on}
+use Rattle.catalog.specs.Listed.{Listed}
 
 module _ {D : Type 0} {g : Ghosts D} where
   -- a writer's snapshot shows a database, where the newest view does
-  pub newest_there : (files : Log D g) (w : Writer) (tables : List Table) (was : Database) → IsWriter files w → ShowsDatabase (newest_view files) tables was → AreAllThere (view_at files (snapshot_of w))
+  pub newest_there : (files : Log D g) (w : Writer) (tables : Listed) (was : Database) → IsWriter files w → ShowsDatabase (newest_view files) tables was → AreAllThere (view_at files (snapshot_of w))
   newest_there files w tables was writer stored = all_there (view_at files (snapshot_of w)) tables was (subst (λ (v : View). ShowsDatabase v tables was) (sym (at_newest files (snapshot_of w) writer.newest)) stored)
 
   -- ---- files that were read before
@@ -61,7 +61,7 @@ module _ {D : Type 0} {g : Ghosts D} where
       told = shows.told;
       settled = still_settled (files_of old) (files_of next) shows applies.settled;
       writer = still_writer (files_of old) (files_of next) w shows applies.writer;
-      stored = subst (λ (ts : List Table). ShowsDatabase (view_of (files_of next) w) ts db) (sym tables)
+      stored = subst (λ (ts : Listed). ShowsDatabase (view_of (files_of next) w) ts db) (sym tables)
           (subst (λ (v : View). ShowsDatabase (after v (changes_of w) (pages_of w)) (current_in old.catalog) db) (sym (shows.at (snapshot_of w))) applies.stored);
     }
 

@@ -22,7 +22,7 @@ nor is = (let bad : false ≡ true = is in cc)
 of_object : (c : Create) (o : NewObject) → is_supported (statement.Create (record c { object = o })) ≡ true → is_write (statement.Create (record c { object = o })) ≡ false → ⊥
 of_object c (new.Table d) supported none = never none
 of_object c (new.Index d) supported none = never none
-of_object c (new.View d) supported none = nor supported
+of_object c (new.View d) supported none = never none
 of_object c (new.Trigger d) supported none = nor supported
 
 of_change : (c : Change) → is_write (statement.Change c) ≡ false → ⊥

@@ -11,7 +11,6 @@ use Rattle.wal.specs.LogState.{seen_by, size_of, state_of}
 use Rattle.wal.specs.declared.log.Log.{Log}
 use Rattle.wal.specs.declared.log.Snapshot.{Snapshot}
 use Rattle.catalog.specs.Database.{Name, Database}
-use Rattle.catalog.specs.declared.tables.Table.{Table}
 use Rattle.pager.specs.Views.{View, newest_view, view_at}
 use Rattle.executor.specs.Works.{Work}
 use Rattle.session.specs.Machine.{Machine, Connection, Idle, InTransactionOf, NoSnapshot, Phase, Reads, SavepointState, committed, is_writing, last_place, newest, with_connection}
@@ -26,6 +25,7 @@ use Rattle.session.proofs.SeenPages.{at_newest}
 use Rattle.session.specs.declared.savepoints.SavedCatalogs.{SavedCatalogs}
 use Rattle.session.specs.declared.seats.Transaction.{Transaction}
 use Rattle.session.specs.declared.seats.Transaction.TheVariants as transaction
+use Rattle.catalog.specs.Listed.{Listed}
 
 itself : (n : ℕ) → (n == n) ≡ true
 itself n = grind (arith, nat_tests)
@@ -68,7 +68,7 @@ other_reading a b phase k same tables savepoints is = record {
   points = is.points;
   is = is.is ∙ ap (λ (s : Savepoints). InTransactionOf s.began (states_of is.points) phase) (sym savepoints);
   all = tables ∙ is.all ∙ sym same;
-  saved = record { tables = ap (λ (s : Savepoints). s.points) savepoints ∙ is.saved.tables; hold = subst (λ (ts : List Table). AllByRecursion (IsUnwritten ts) is.points) (sym same) is.saved.hold };
+  saved = record { tables = ap (λ (s : Savepoints). s.points) savepoints ∙ is.saved.tables; hold = subst (λ (ts : Listed). AllByRecursion (IsUnwritten ts) is.points) (sym same) is.saved.hold };
 }
 
 -- a snapshot that isn't stale is of the newest commit
@@ -113,7 +113,7 @@ module _ {D : Type 0} {g : Ghosts D} where
     db = committed m is.0;
     first = is.1;
     is = reading_phase m n is.0;
-    stays = λ other j same on. (is.0, on, subst (λ (ts : List Table). IsSnapshotOf files ts m.history is.0 s) (sym same) is.2);
+    stays = λ other j same on. (is.0, on, subst (λ (ts : Listed). IsSnapshotOf files ts m.history is.0 s) (sym same) is.2);
   }
   reads_in files catalog m n (transaction.Writing w) k reads is = absurd (false≢true reads)
 

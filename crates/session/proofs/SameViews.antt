@@ -2,7 +2,6 @@
 use Rattle.std.proofs.Common.{◌≡◌, ◌≤◌, inl, inr, ℕ, List, refl, sym, subst, arith}
 use Rattle.std.proofs.lemmas.Bool.{cases_lt}
 use Rattle.catalog.specs.Database.{Database}
-use Rattle.catalog.specs.declared.tables.Table.{Table}
 use Rattle.pages.specs.Map.{PageMap}
 use Rattle.wal.specs.Laws.{IsChanged}
 use Rattle.wal.specs.LogState.{size_of}
@@ -20,8 +19,9 @@ use Rattle.wal_checkpoint.specs.Shown.{ShowsSame}
 use Rattle.db_pages.specs.Stored.{Stores}
 use Rattle.session.specs.Stored.{ShowsDatabase}
 use Rattle.session.proofs.FirstPages.{all_there}
+use Rattle.catalog.specs.Listed.{Listed}
 
-pub same_shown : (v w : View) (tables : List Table) (db : Database) → ShowsSame v w → ShowsDatabase v tables db → ShowsDatabase w tables db
+pub same_shown : (v w : View) (tables : Listed) (db : Database) → ShowsSame v w → ShowsDatabase v tables db → ShowsDatabase w tables db
 same_shown v w tables db same shown = record {
   stored = subst (λ (n : ℕ). Stores (pages_in w) n tables db) (sym same.page_size) (subst (λ (map : PageMap). Stores map v.page_size tables db) maps shown.stored);
   served = subst (λ (n : ℕ). IsSizeWithinLimits n w.size) (sym same.page_size) (subst (IsSizeWithinLimits v.page_size) (sym same.size) shown.served);

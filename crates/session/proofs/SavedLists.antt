@@ -7,42 +7,41 @@ use Rattle.std.specs.declared.alloc.Global.{Global}
 use Rattle.std.specs.declared.rc.Rc.{Rc}
 use Rattle.sqlval.specs.Names.{is_same_name}
 use Rattle.catalog.specs.Database.{Name}
-use Rattle.catalog.specs.Listed.{tables_of}
+use Rattle.catalog.specs.Listed.{listed_in, Listed}
 use Rattle.catalog.specs.declared.tables.Catalog.{Catalog}
-use Rattle.catalog.specs.declared.tables.Table.{Table}
 use Rattle.session.specs.SavedTables.{AddsSavepoint, GoesBackTo, IsNewestNamed, Rebases, ReleasesFrom, SavedTables, Savepoints, changed_to, committed_in, current_in, first_in, saved_after, savepoints_in, tables_after, unchanged}
 use Rattle.session.specs.declared.savepoints.SavedCatalogs.{SavedCatalogs}
 use Rattle.session.specs.declared.savepoints.Savepoint.{Savepoint}
 
 -- ---- one more
 
-pub after_push : (ts : List Table) (ss : List Savepoint) (s : Savepoint) → tables_after ts (ss ++ s ∷ []) ≡ changed_to (tables_after ts ss) s.changed
+pub after_push : (ts : Listed) (ss : List Savepoint) (s : Savepoint) → tables_after ts (ss ++ s ∷ []) ≡ changed_to (tables_after ts ss) s.changed
 after_push ts [] s = refl
 after_push ts (x ∷ ss) s = after_push (changed_to ts x.changed) ss s
 
-abbrev pub saved_of : Name → List Table → SavedTables
+abbrev pub saved_of : Name → Listed → SavedTables
 saved_of name tables = record { name = name; tables = tables }
 
-pub saved_push : (ts : List Table) (ss : List Savepoint) (s : Savepoint) → saved_after ts (ss ++ s ∷ []) ≡ saved_after ts ss ++ saved_of s.name (tables_after ts ss) ∷ []
+pub saved_push : (ts : Listed) (ss : List Savepoint) (s : Savepoint) → saved_after ts (ss ++ s ∷ []) ≡ saved_after ts ss ++ saved_of s.name (tables_after ts ss) ∷ []
 saved_push ts [] s = refl
 saved_push ts (x ∷ ss) s = ap (λ (ps : List SavedTables). saved_of x.name ts ∷ ps) (saved_push (changed_to ts x.changed) ss s)
 
 -- ---- by places
 
-pub saved_length : (ts : List Table) (ss : List Savepoint) → length (saved_after ts ss) ≡ length ss
+pub saved_length : (ts : Listed) (ss : List Savepoint) → length (saved_after ts ss) ≡ length ss
 saved_length ts [] = refl
 saved_length ts (x ∷ ss) = ap suc (saved_length (changed_to ts x.changed) ss)
 
-pub saved_names : (ts : List Table) (ss : List Savepoint) → map (λ (p : SavedTables). p.name) (saved_after ts ss) ≡ map (λ (s : Savepoint). s.name) ss
+pub saved_names : (ts : Listed) (ss : List Savepoint) → map (λ (p : SavedTables). p.name) (saved_after ts ss) ≡ map (λ (s : Savepoint). s.name) ss
 saved_names ts [] = refl
 saved_names ts (x ∷ ss) = ap (λ (ns : List Name). x.name ∷ ns) (saved_names (changed_to ts x.changed) ss)
 
-pub saved_take : (n : ℕ) (ts : List Table) (ss : List Savepoint) → saved_after ts (take n ss) ≡ take n (saved_after ts ss)
+pub saved_take : (n : ℕ) (ts : Listed) (ss : List Savepoint) → saved_after ts (take n ss) ≡ take n (saved_after ts ss)
 saved_take zero ts ss = refl
 saved_take (suc n) ts [] = refl
 saved_take (suc n) ts (x ∷ ss) = ap (λ (ps : List SavedTables). saved_of x.name ts ∷ ps) (saved_take n (changed_to ts x.changed) ss)
 
-pub saved_at : (n : ℕ) (ts : List Table) (ss : List Savepoint) (d : SavedTables) → n < length ss → (get_or (saved_after ts ss) n d).tables ≡ tables_after ts (take n ss)
+pub saved_at : (n : ℕ) (ts : Listed) (ss : List Savepoint) (d : SavedTables) → n < length ss → (get_or (saved_after ts ss) n d).tables ≡ tables_after ts (take n ss)
 saved_at n ts [] d within = absurd (omega (arith, within))
 saved_at zero ts (x ∷ ss) d within = refl
 saved_at (suc n) ts (x ∷ ss) d within = saved_at n (changed_to ts x.changed) ss d (omega (arith, within))
@@ -54,7 +53,7 @@ pub newest_set : (ss : List Savepoint) (n : ℕ) (s : Savepoint) → n < length 
 newest_set ss n s within = ap (λ (xs : List Savepoint). set xs n s) (take_more ss n s within) ∙ set_at (take n ss) (get_or ss n s) [] s n (length-take-le n ss (omega (arith, within)))
 
 -- with the name that was there it goes back to the same tables
-pub saved_set : (ts : List Table) (ss : List Savepoint) (n : ℕ) (s : Savepoint) → n < length ss → s.name ≡ (get_or ss n s).name → saved_after ts (take n ss ++ s ∷ []) ≡ take (n + 1) (saved_after ts ss)
+pub saved_set : (ts : Listed) (ss : List Savepoint) (n : ℕ) (s : Savepoint) → n < length ss → s.name ≡ (get_or ss n s).name → saved_after ts (take n ss ++ s ∷ []) ≡ take (n + 1) (saved_after ts ss)
 saved_set ts ss n s within same =
     saved_push ts (take n ss) s
     ∙ ap (λ name. saved_after ts (take n ss) ++ saved_of name (tables_after ts (take n ss)) ∷ []) same
@@ -62,27 +61,27 @@ saved_set ts ss n s within same =
     ∙ ap (saved_after ts) (sym (take_more ss n s within))
     ∙ saved_take (n + 1) ts ss
 
-pub after_changed : (ts : List Table) (ss : List Savepoint) (s : Savepoint) (c : Rc Catalog Global) → s.changed ≡ Some c → tables_after ts (ss ++ s ∷ []) ≡ tables_of c.value
+pub after_changed : (ts : Listed) (ss : List Savepoint) (s : Savepoint) (c : Rc Catalog Global) → s.changed ≡ Some c → tables_after ts (ss ++ s ∷ []) ≡ listed_in c.value
 after_changed ts ss s c is = after_push ts ss s ∙ ap (changed_to (tables_after ts ss)) is
 
-pub after_none : (ts : List Table) (ss : List Savepoint) (s : Savepoint) → s.changed ≡ None → tables_after ts (ss ++ s ∷ []) ≡ tables_after ts ss
+pub after_none : (ts : Listed) (ss : List Savepoint) (s : Savepoint) → s.changed ≡ None → tables_after ts (ss ++ s ∷ []) ≡ tables_after ts ss
 after_none ts ss s is = after_push ts ss s ∙ ap (changed_to (tables_after ts ss)) is
 
 -- the last one set
 last_set : (ss : List Savepoint) (n : ℕ) (s : Savepoint) → n + 1 ≡ length ss → set ss n s ≡ take n ss ++ s ∷ []
 last_set ss n s is = ap (λ (xs : List Savepoint). set xs n s) (sym (take_all (n + 1) ss (omega (arith, is)))) ∙ newest_set ss n s (omega (arith, is))
 
-pub set_current : (ts : List Table) (ss : List Savepoint) (n : ℕ) (s : Savepoint) (c : Rc Catalog Global) → n + 1 ≡ length ss → s.changed ≡ Some c → tables_after ts (set ss n s) ≡ tables_of c.value
+pub set_current : (ts : Listed) (ss : List Savepoint) (n : ℕ) (s : Savepoint) (c : Rc Catalog Global) → n + 1 ≡ length ss → s.changed ≡ Some c → tables_after ts (set ss n s) ≡ listed_in c.value
 set_current ts ss n s c is changed = ap (tables_after ts) (last_set ss n s is) ∙ after_changed ts (take n ss) s c changed
 
-pub set_saved : (ts : List Table) (ss : List Savepoint) (n : ℕ) (s : Savepoint) → n + 1 ≡ length ss → s.name ≡ (get_or ss n s).name → saved_after ts (set ss n s) ≡ saved_after ts ss
+pub set_saved : (ts : Listed) (ss : List Savepoint) (n : ℕ) (s : Savepoint) → n + 1 ≡ length ss → s.name ≡ (get_or ss n s).name → saved_after ts (set ss n s) ≡ saved_after ts ss
 set_saved ts ss n s is same =
     ap (saved_after ts) (last_set ss n s is)
     ∙ saved_set ts ss n s (omega (arith, is)) same
     ∙ take_all (n + 1) (saved_after ts ss) (omega (arith, is, saved_length ts ss))
 
 -- without the newest one
-pub saved_pop : (ts : List Table) (ss : List Savepoint) (s : Savepoint) → saved_after ts ss ≡ take (length ss) (saved_after ts (ss ++ s ∷ []))
+pub saved_pop : (ts : Listed) (ss : List Savepoint) (s : Savepoint) → saved_after ts ss ≡ take (length ss) (saved_after ts (ss ++ s ∷ []))
 saved_pop ts ss s = sym (ap (take (length ss)) (saved_push ts ss s) ∙ take_at (saved_after ts ss) (saved_of s.name (tables_after ts ss) ∷ []) (length ss) (saved_length ts ss))
 
 -- ---- by names
@@ -90,7 +89,7 @@ saved_pop ts ss s = sym (ap (take (length ss)) (saved_push ts ss s) ∙ take_at 
 name_here : (ss : List Savepoint) (place : ℕ) (s : Savepoint) (d : Name) → 0 < place → place ≤ length ss → s ≡ get_or ss (place - 1) s → get_or (map (λ (x : Savepoint). x.name) ss) (place - 1) d ≡ s.name
 name_here ss place s d above below is = get_or-map (λ (x : Savepoint). x.name) ss (place - 1) s d (omega (arith, above, below)) ∙ ap (λ (x : Savepoint). x.name) (sym is)
 
-pub newest_here : (ts : List Table) (ss : List Savepoint) (n : Name) (place : ℕ) (s : Savepoint) → 0 < place → place ≤ length ss → list_any (λ other. is_same_name other n) (drop place (map (λ (x : Savepoint). x.name) ss)) ≡ false
+pub newest_here : (ts : Listed) (ss : List Savepoint) (n : Name) (place : ℕ) (s : Savepoint) → 0 < place → place ≤ length ss → list_any (λ other. is_same_name other n) (drop place (map (λ (x : Savepoint). x.name) ss)) ≡ false
     → s ≡ get_or ss (place - 1) s → is_same_name s.name n ≡ true → IsNewestNamed n (map (λ (p : SavedTables). p.name) (saved_after ts ss)) (place - 1)
 newest_here ts ss n place s above below none is same =
     subst (λ (names : List Name). IsNewestNamed n names (place - 1)) (sym (saved_names ts ss)) (record {
@@ -110,7 +109,7 @@ none_from_here ss n place s above below none is other =
           ∙ ap (λ k. any (drop k names)) (omega (arith, above)) ∙ none,
     )
 
-pub none_at_all : (ts : List Table) (ss : List Savepoint) (n : Name) (place : ℕ) → place ≤ 0 → list_any (λ other. is_same_name other n) (drop place (map (λ (x : Savepoint). x.name) ss)) ≡ false
+pub none_at_all : (ts : Listed) (ss : List Savepoint) (n : Name) (place : ℕ) → place ≤ 0 → list_any (λ other. is_same_name other n) (drop place (map (λ (x : Savepoint). x.name) ss)) ≡ false
     → list_any (λ other. is_same_name other n) (map (λ (p : SavedTables). p.name) (saved_after ts ss)) ≡ false
 none_at_all ts ss n place low none =
     let start : 0 ≡ place = omega (arith, low) in
@@ -186,23 +185,23 @@ no_parts s none = ap (tables_after (first_in s)) (nil_from_length s.savepoints.i
 
 -- ---- other tables below savepoints after which none were changed
 
-pub after_unchanged : (ts : List Table) (ss : List Savepoint) → tables_after ts (map unchanged ss) ≡ ts
+pub after_unchanged : (ts : Listed) (ss : List Savepoint) → tables_after ts (map unchanged ss) ≡ ts
 after_unchanged ts [] = refl
 after_unchanged ts (s ∷ ss) = after_unchanged ts ss
 
-pub saved_unchanged : (base ts : List Table) (ss : List Savepoint) → saved_after ts (map unchanged ss) ≡ map (λ (p : SavedTables). record { name = p.name; tables = ts }) (saved_after base ss)
+pub saved_unchanged : (base ts : Listed) (ss : List Savepoint) → saved_after ts (map unchanged ss) ≡ map (λ (p : SavedTables). record { name = p.name; tables = ts }) (saved_after base ss)
 saved_unchanged base ts [] = refl
 saved_unchanged base ts (s ∷ ss) = ap (λ (ps : List SavedTables). saved_of s.name ts ∷ ps) (saved_unchanged (changed_to base s.changed) ts ss)
 
-pub rebased_is : (old new : SavedCatalogs) (newest : Rc Catalog Global) → new.committed ≡ newest → new.changed ≡ None → new.began ≡ old.began → new.savepoints.items ≡ map unchanged old.savepoints.items → Rebases (tables_of newest.value) old new
+pub rebased_is : (old new : SavedCatalogs) (newest : Rc Catalog Global) → new.committed ≡ newest → new.changed ≡ None → new.began ≡ old.began → new.savepoints.items ≡ map unchanged old.savepoints.items → Rebases (listed_in newest.value) old new
 rebased_is old new newest committed changed began items =
-    let ts = tables_of newest.value in
-    let first : first_in new ≡ ts = ap (changed_to (committed_in new)) changed ∙ ap (λ (c : Rc Catalog Global). tables_of c.value) committed in
+    let ts = listed_in newest.value in
+    let first : first_in new ≡ ts = ap (changed_to (committed_in new)) changed ∙ ap (λ (c : Rc Catalog Global). listed_in c.value) committed in
     record {
-      current = ap (λ (xs : List Table). tables_after xs new.savepoints.items) first ∙ ap (tables_after ts) items ∙ after_unchanged ts old.savepoints.items;
-      committed = ap (λ (c : Rc Catalog Global). tables_of c.value) committed;
+      current = ap (λ (xs : Listed). tables_after xs new.savepoints.items) first ∙ ap (tables_after ts) items ∙ after_unchanged ts old.savepoints.items;
+      committed = ap (λ (c : Rc Catalog Global). listed_in c.value) committed;
       savepoints = ap (λ b. kept_as b (saved_after (first_in new) new.savepoints.items)) began
-          ∙ ap (λ (xs : List Table). kept_as old.began (saved_after xs new.savepoints.items)) first
+          ∙ ap (λ (xs : Listed). kept_as old.began (saved_after xs new.savepoints.items)) first
           ∙ ap (λ (ss : List Savepoint). kept_as old.began (saved_after ts ss)) items
           ∙ ap (kept_as old.began) (saved_unchanged (first_in old) ts old.savepoints.items);
     }
@@ -225,7 +224,7 @@ pub items_none : (s : SavedCatalogs) → (savepoints_in s).points ≡ [] → s.s
 items_none s none = nil_from_length s.savepoints.items (sym (saved_so s) ∙ ap length none)
 
 pub unchanged_so : (s : SavedCatalogs) → s.changed ≡ None → s.savepoints.items ≡ [] → current_in s ≡ committed_in s
-unchanged_so s changed items = ap (λ (ts : List Table). tables_after ts s.savepoints.items) (ap (changed_to (committed_in s)) changed) ∙ ap (tables_after (committed_in s)) items
+unchanged_so s changed items = ap (λ (ts : Listed). tables_after ts s.savepoints.items) (ap (changed_to (committed_in s)) changed) ∙ ap (tables_after (committed_in s)) items
 
 pub none_so : (s : SavedCatalogs) → s.began ≡ false → s.savepoints.items ≡ [] → savepoints_in s ≡ record { began = false; points = [] }
 none_so s began items = ap (λ b. kept_as b (saved_after (first_in s) s.savepoints.items)) began ∙ ap (λ (ss : List Savepoint). kept_as false (saved_after (first_in s) ss)) items

@@ -7,7 +7,6 @@ use Rattle.disk.specs.declared.device.Disk.{Ghosts}
 use Rattle.sqlval.specs.Names.{folded}
 use Rattle.wal.specs.declared.log.Log.{Log}
 use Rattle.catalog.specs.Database.{Name, Database}
-use Rattle.catalog.specs.declared.tables.Table.{Table}
 use Rattle.pager.specs.Marks.{Changes, IsOverTheSame, marks_of, now_of}
 use Rattle.pager.specs.Views.{newest_view, view_of}
 use Rattle.pager.specs.declared.writer.Writer.{Writer}
@@ -19,6 +18,7 @@ use Rattle.session.specs.Stored.{ShowsDatabase}
 use Rattle.session.specs.declared.savepoints.SavedCatalogs.{SavedCatalogs}
 use Rattle.session.proofs.Marked.{moved_view, moved_writer, over_on}
 use Rattle.session.proofs.SavedStates.{At, all_map, all_push, all_take, names, states_push}
+use Rattle.catalog.specs.Listed.{Listed}
 
 -- ---- lists of what is kept
 
@@ -56,11 +56,11 @@ saved_push {P = P} old new points p began is all has tables = record {
 
 -- ---- before the first write
 
-abbrev pub unwritten : Name → List Table → SavedAs ⊤
+abbrev pub unwritten : Name → Listed → SavedAs ⊤
 unwritten n tables = record { state = record { name = folded n; working = None }; tables = record { name = n; tables = tables }; kept = tt }
 
 on_committed : (a b : SavedCatalogs) (points : List (SavedAs ⊤)) → committed_in b ≡ committed_in a → AllByRecursion (IsUnwritten (committed_in a)) points → AllByRecursion (IsUnwritten (committed_in b)) points
-on_committed a b points same all = subst (λ (ts : List Table). AllByRecursion (IsUnwritten ts) points) (sym same) all
+on_committed a b points same all = subst (λ (ts : Listed). AllByRecursion (IsUnwritten ts) points) (sym same) all
 
 pub reading_adds : (old new : SavedCatalogs) (n : Name) (phase : Phase) (k : Connection) (is : IsReadingIn old phase k) (began : Bool) → AddsSavepoint n began old new
     → IsReadingIn new phase (InTransactionOf began (record { name = folded n; working = None } ∷ states_of is.points) phase)
@@ -85,7 +85,7 @@ reading_takes old new phase k is n committed current savepoints = record {
 
 -- ---- after it
 
-abbrev pub marked : Name → List Table → Database → Changes → SavedAs Changes
+abbrev pub marked : Name → Listed → Database → Changes → SavedAs Changes
 marked n tables db now = record { state = record { name = folded n; working = Some db }; tables = record { name = n; tables = tables }; kept = now }
 
 marks_take : (w v : Writer) (points : List (SavedAs Changes)) (n : ℕ) → marks_of v ≡ take n (marks_of w) → marks_of w ≡ map (λ p. p.kept) points → marks_of v ≡ map (λ p. p.kept) (take n points)
@@ -96,12 +96,12 @@ module _ {D : Type 0} {g : Ghosts D} where
   on_writer : (files : Log D g) (newest : Database) (w v : Writer) (points : List (SavedAs Changes)) → IsOverTheSame w v → AllByRecursion (IsMarked files newest w) points → AllByRecursion (IsMarked files newest v) points
   on_writer files newest w v points over all = all_map (IsMarked files newest w) (IsMarked files newest v) points (λ p is. record { named = is.named; back = λ u now on. is.back u now (over_on w v u over on) }) all
 
-  stored_on : (files : Log D g) (w v : Writer) (old new : List Table) (db : Database) → now_of v ≡ now_of w → IsOverTheSame w v → new ≡ old → ShowsDatabase (view_of files w) old db → ShowsDatabase (view_of files v) new db
+  stored_on : (files : Log D g) (w v : Writer) (old new : Listed) (db : Database) → now_of v ≡ now_of w → IsOverTheSame w v → new ≡ old → ShowsDatabase (view_of files w) old db → ShowsDatabase (view_of files v) new db
   stored_on files w v old new db now over tables stored =
-      subst (λ (ts : List Table). ShowsDatabase (view_of files v) ts db) (sym tables) (subst (λ x. ShowsDatabase x old db) (sym (moved_view files w v now over)) stored)
+      subst (λ (ts : Listed). ShowsDatabase (view_of files v) ts db) (sym tables) (subst (λ x. ShowsDatabase x old db) (sym (moved_view files w v now over)) stored)
 
   on_base : (files : Log D g) (old new : SavedCatalogs) (m : Machine) → committed_in new ≡ committed_in old → ShowsDatabase (newest_view files) (committed_in old) (newest m) → ShowsDatabase (newest_view files) (committed_in new) (newest m)
-  on_base files old new m same base = subst (λ (ts : List Table). ShowsDatabase (newest_view files) ts (newest m)) (sym same) base
+  on_base files old new m same base = subst (λ (ts : Listed). ShowsDatabase (newest_view files) ts (newest m)) (sym same) base
 
   pub writing_keeps : (files : Log D g) (old new : SavedCatalogs) (m : Machine) (w v : Writer) (k : Connection) → KeepsTables old new → KeepsWriter w v → IsWritingIn files old m.history w k → IsWritingIn files new m.history v k
   writing_keeps files old new m w v k keeps kept is = record {
@@ -161,7 +161,7 @@ module _ {D : Type 0} {g : Ghosts D} where
         points = take (place + 1) is.points;
         is = ap (λ (s : Savepoints). InTransactionOf s.began (states_of (take (place + 1) is.points)) (Writes (last_place m) db)) (sym back.savepoints);
         may = shows.0;
-        stored = subst (λ (ts : List Table). ShowsDatabase (view_of files v) ts db) (sym tables) shows.1;
+        stored = subst (λ (ts : Listed). ShowsDatabase (view_of files v) ts db) (sym tables) shows.1;
         saved = saved_take old new is.points (place + 1) (savepoints_in old).began back.savepoints (record { tables = is.saved.tables; hold = on_writer files (newest m) w v is.points goes.stands is.saved.hold });
         marks = marks_take w v is.points (place + 1) goes.marks is.marks;
         base = on_base files old new m back.committed is.base;

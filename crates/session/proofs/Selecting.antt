@@ -12,7 +12,6 @@ use Rattle.sql_syntax.specs.declared.statement.Statement.TheVariants as statemen
 use Rattle.catalog.specs.Database.{Database}
 use Rattle.session.specs.SavedTables.{IsUnchanged, committed_in, current_in}
 use Rattle.session.specs.declared.savepoints.SavedCatalogs.{SavedCatalogs}
-use Rattle.catalog.specs.declared.tables.Table.{Table}
 use Rattle.query_names.specs.Checked.{Checked, Meant, faults}
 use Rattle.row_scan.specs.Rows.{values_of}
 use Rattle.smallvec.specs.SmallVec.{SmallVec}
@@ -37,6 +36,7 @@ use Rattle.session.specs.declared.seats.Transaction.TheVariants as transaction
 use Rattle.session.proofs.Settled.{crash_keeps, not_longer}
 use Rattle.session.proofs.Showing.{moved, still_newest, still_shown, the_same}
 use Rattle.session.proofs.Stepping.{by_outcome, instead, select_outcome}
+use Rattle.catalog.specs.Listed.{Listed}
 
 -- ---- what a query comes to
 
@@ -114,7 +114,7 @@ module _ {D : Type 0} {g : Ghosts D} where
 
   -- the tables of a transaction that has no snapshot yet are the newest
   newest_current : (c : Connections D g) (m : Machine) → RepresentsRunning c m → committed_in c.catalog ≡ newest_tables c → IsUnchanged c.catalog → ShowsDatabase (newest_view (files_of c)) (current_in c.catalog) (newest m)
-  newest_current c m shown same all = subst (λ (ts : List Table). ShowsDatabase (newest_view (files_of c)) ts (newest m)) (sym (all ∙ same)) shown.stored
+  newest_current c m shown same all = subst (λ (ts : Listed). ShowsDatabase (newest_view (files_of c)) ts (newest m)) (sym (all ∙ same)) shown.stored
 
   pub sees_by : (c : Connections D g) (m : Machine) (shown : RepresentsRunning c m) (t : Transaction) → c.transaction ≡ t → (has_no_snapshot t ≡ true → committed_in c.catalog ≡ newest_tables c)
       → IsTransaction (files_of c) c.catalog m.history t shown.present → Sees c m
@@ -133,7 +133,7 @@ module _ {D : Type 0} {g : Ghosts D} where
   sees_by c m shown (transaction.Reading s) is base first = record {
     db = committed m first.0;
     stored = subst (λ (t : Transaction). ShowsDatabase (seen_in t (files_of c)) (current_in c.catalog) (committed m first.0)) (sym is)
-        (subst (λ (ts : List Table). ShowsDatabase (view_at (files_of c) s) ts (committed m first.0)) (sym first.1.all) first.2.shows);
+        (subst (λ (ts : Listed). ShowsDatabase (view_at (files_of c) s) ts (committed m first.0)) (sym first.1.all) first.2.shows);
     next = m;
     is = λ q. select_outcome q m c.connection (in_transaction c.catalog first.1.points (Reads first.0)) (shown.is ∙ first.1.is);
   }
@@ -203,7 +203,7 @@ module _ {D : Type 0} {g : Ghosts D} where
           let newest_s = still_newest (files_of mid) (files_of new) begun.0 same_files begun.2 in
           let stored : ShowsDatabase (newest_view (files_of new)) (committed_in new.catalog) (newest m) =
           subst (λ (v : View). ShowsDatabase v (committed_in new.catalog) (newest m)) (sym whole.newest)
-          (subst (λ (ts : List Table). ShowsDatabase (newest_view (files_of old)) ts (newest m)) (sym (ap committed_in (starts.catalog ∙ reads.catalog) ∙ same)) shown.stored) in
+          (subst (λ (ts : Listed). ShowsDatabase (newest_view (files_of old)) ts (newest m)) (sym (ap committed_in (starts.catalog ∙ reads.catalog) ∙ same)) shown.stored) in
           let seen : IsSnapshotOf (files_of new) (committed_in new.catalog) m.history (last_place m) begun.0 = record {
             shows = subst (λ (v : View). ShowsDatabase v (committed_in new.catalog) (newest m)) (sym (at_newest (files_of new) begun.0 newest_s)) stored;
             age = inl (refl, newest_s);

@@ -16,7 +16,6 @@ use Rattle.wal.specs.Alone.{StandsAlone}
 use Rattle.wal.specs.Anew.{LeavesAmong}
 use Rattle.wal.specs.declared.log.Log.{Log}
 use Rattle.catalog.specs.Database.{Database}
-use Rattle.catalog.specs.declared.tables.Table.{Table}
 use Rattle.pager.specs.Commits.{IsBase, IsCommittedOver, LeavesCommit}
 use Rattle.pager.specs.Limits.{pages_of}
 use Rattle.pager.specs.Views.{View, newest_view}
@@ -30,6 +29,7 @@ use Rattle.session.specs.Representation.{RepresentsRunning, ShowTheSame, Represe
 use Rattle.session.specs.Crashes.{MayShow}
 use Rattle.session.specs.Stored.{ShowsDatabase}
 use Rattle.session.specs.declared.transactions.Connections.{Connections}
+use Rattle.catalog.specs.Listed.{Listed}
 
 -- a history isn't longer than itself
 pub not_longer : {P : Type 0} (history : List Database) → length history < length history → P
@@ -58,7 +58,7 @@ module _ {D : Type 0} {g : Ghosts D} where
   -- ---- settled files
 
   -- a crash leaves the newest database
-  pub settled_leaves : (May : Database → Type 0) (files : Log D g) (tables : List Table) (db : Database) → May db → IsSettled files → ShowsDatabase (newest_view files) tables db
+  pub settled_leaves : (May : Database → Type 0) (files : Log D g) (tables : Listed) (db : Database) → May db → IsSettled files → ShowsDatabase (newest_view files) tables db
       → LeaveHeld May (versions (g.file (db_of files))) (versions (g.file (log_of files)))
   settled_leaves May files tables db may settled stored d l left_db left_log chance = (
     db,
@@ -130,7 +130,7 @@ module _ {D : Type 0} {g : Ghosts D} where
     counted = counts_so (counted_of is.next) (pages_of w) view.size is.next_is.counts (sym is.size);
   }
 
-  module _ (old new : Log D g) (w : Writer) (page : List ℕ) (header : Header) (settled : IsSettled old) (db_same : db_of new ≡ db_of old) (some : 1 ≤ pages_of w) (before behind : List Table) (was db : Database)
+  module _ (old new : Log D g) (w : Writer) (page : List ℕ) (header : Header) (settled : IsSettled old) (db_same : db_of new ≡ db_of old) (some : 1 ≤ pages_of w) (before behind : Listed) (was db : Database)
       (stored : ShowsDatabase (newest_view old) before was) (stores : (view : View) → view.page_size ≡ (newest_view old).page_size → IsCommittedOver old w page header view → ShowsDatabase view behind db) where
     -- where the log's frames are copied, the database file alone holds the same
     abbrev alone_view : View

@@ -14,7 +14,6 @@ use Rattle.session.specs.SavedTables.{HasNoSavepoints, IsUnchanged, Savepoints, 
 use Rattle.session.specs.Saving.{AreSaved, IsMarked, SavedAs, in_transaction, states_of}
 use Rattle.session.specs.declared.savepoints.SavedCatalogs.{SavedCatalogs}
 use Rattle.catalog.specs.Database.{Database}
-use Rattle.catalog.specs.declared.tables.Table.{Table}
 use Rattle.disk.specs.File.{File}
 use Rattle.wal_frame.specs.Accepted.{KeepsFile}
 use Rattle.wal.specs.Committed.{frames_under}
@@ -39,6 +38,7 @@ use Rattle.session.specs.declared.seats.Transaction.{Transaction}
 use Rattle.session.specs.declared.seats.Transaction.TheVariants as transaction
 use Rattle.session.proofs.Settled.{as_shown, crash_keeps, not_longer, still_settled}
 use Rattle.session.proofs.Stepping.{by_outcome, begin_outcome, rollback_outcome}
+use Rattle.catalog.specs.Listed.{Listed}
 
 -- a transaction that begins has no savepoint
 pub begins_in : (Kept : Type 0) (catalog : SavedCatalogs) (phase : Phase) → HasNoSavepoints catalog → InTransactionOf false [] phase ≡ in_transaction {Kept = Kept} catalog [] phase
@@ -117,7 +117,7 @@ module _ {D : Type 0} {g : Ghosts D} where
   still_writer old new w same is = record { newest = still_newest old new (snapshot_of w) same is.newest; sound = is.sound; page_size = is.page_size ∙ ap (λ (k : LogState). k.page_size) (sym same.known) }
 
   -- what a writer shows is what it showed
-  pub still_stored : (old new : Log D g) (w : Writer) (tables : List Table) (db : Database) → ShowTheSame old new → ShowsDatabase (view_of old w) tables db → ShowsDatabase (view_of new w) tables db
+  pub still_stored : (old new : Log D g) (w : Writer) (tables : Listed) (db : Database) → ShowTheSame old new → ShowsDatabase (view_of old w) tables db → ShowsDatabase (view_of new w) tables db
   still_stored old new w tables db same stored = subst (λ (v : View). ShowsDatabase (after v (changes_of w) (pages_of w)) tables db) (sym (same.at (snapshot_of w))) stored
 
   -- what is kept at a mark is kept of a writer over the same snapshot
@@ -134,7 +134,7 @@ module _ {D : Type 0} {g : Ghosts D} where
   pub still_saved : (old new : Log D g) (catalog : SavedCatalogs) (newest : Database) (w v : Writer) (points : List (SavedAs Changes)) → ShowTheSame old new → ((u : Writer) → IsOverTheSame v u → IsOverTheSame w u) → AreSaved (IsMarked old newest w) catalog points → AreSaved (IsMarked new newest v) catalog points
   still_saved old new catalog newest w v points same over saved = record { tables = saved.tables; hold = all_marked old new newest w v points same over saved.hold }
 
-  still_snapshot : (old new : Log D g) (tables : List Table) (history : List Database) (i : ℕ) (s : Snapshot) → ShowTheSame old new → IsSnapshotOf old tables history i s → IsSnapshotOf new tables history i s
+  still_snapshot : (old new : Log D g) (tables : Listed) (history : List Database) (i : ℕ) (s : Snapshot) → ShowTheSame old new → IsSnapshotOf old tables history i s → IsSnapshotOf new tables history i s
   still_snapshot old new tables history i s same is = record {
     shows = subst (λ (v : View). ShowsDatabase v tables (committed_at history i)) (sym (same.at s)) is.shows;
     age = elim is.age [

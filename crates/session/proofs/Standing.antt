@@ -7,7 +7,6 @@ use Rattle.wal.specs.Committed.{HasCommits}
 use Rattle.wal.specs.Sizes.{IsSizeWithinLimits}
 use Rattle.wal.proofs.Openable.{some_size}
 use Rattle.catalog.specs.Database.{Database}
-use Rattle.catalog.specs.declared.tables.Table.{Table}
 use Rattle.pages.specs.Map.{Has, page_at}
 use Rattle.pager.specs.Maps.{pages_in}
 use Rattle.pager.specs.Views.{View}
@@ -19,8 +18,9 @@ use Rattle.session.specs.Holding.{Hold, IsFound, StoreFiles}
 use Rattle.session.specs.Stored.{ShowsDatabase}
 use Rattle.db_pages.proofs.Standing.{stand_if_stored}
 use Rattle.session.proofs.StandingViews.{ShowsEach, few_frames, files_make}
+use Rattle.catalog.specs.Listed.{Listed}
 
-module _ (log : List ℕ) (view : View) (commits : HasCommits view.page_size log view.frames) (found : IsFound view) (tables : List Table) (database : Database) (shown : ShowsDatabase view tables database) where
+module _ (log : List ℕ) (view : View) (commits : HasCommits view.page_size log view.frames) (found : IsFound view) (tables : Listed) (database : Database) (shown : ShowsDatabase view tables database) where
   some_bytes : 1 ≤ view.page_size
   some_bytes = some_size view.page_size (subst IsPageSize found.head_size found.head_is.served)
 

@@ -14,7 +14,6 @@ use Rattle.wal.proofs.Views.{page_in}
 use Rattle.pages.specs.Map.{PageMap, page_at, Has}
 use Rattle.tree_table.proofs.LeafTrees.{root_there}
 use Rattle.catalog.specs.Database.{Database}
-use Rattle.catalog.specs.declared.tables.Table.{Table}
 use Rattle.db_files.specs.Files.{FilesStandFor}
 use Rattle.pager.specs.Views.{View, ViewHas}
 use Rattle.db_pages.specs.Language.{supported_language}
@@ -23,6 +22,7 @@ use Rattle.session.specs.Holding.{IsFound, StoreFiles}
 use Rattle.session.specs.Meaning.{HeldFilesAreStored}
 use Rattle.db_pages.proofs.StoredPages.{stored_if_standing}
 use Rattle.session.proofs.StandingViews.{ShowsEach, only_these}
+use Rattle.catalog.specs.Listed.{Listed}
 
 -- ---- the log's committed frames
 
@@ -86,7 +86,7 @@ module _ (db log : List ℕ) (database : Database) (stand : FilesStandFor suppor
     counted = stand.stands.headed.counted;
   }
 
-  stored : (tables : List Table) × Stores stand.pages size tables database
+  stored : (tables : Listed) × Stores stand.pages size tables database
   stored = stored_if_standing stand.pages size database stand.stands
 
   pub store_files : StoreFiles db log database

@@ -8,7 +8,6 @@ use Rattle.disk.specs.declared.device.Disk.{Ghosts}
 use Rattle.sql_syntax.specs.declared.statement.Statement.{Statement}
 use Rattle.wal.specs.declared.log.Log.{Log}
 use Rattle.catalog.specs.Database.{Database}
-use Rattle.catalog.specs.declared.tables.Table.{Table}
 use Rattle.pager.specs.Views.{Tells, newest_view}
 use Rattle.session.specs.ConnectionState.{files_of, has_failed_in}
 use Rattle.session.specs.CopiedBack.{CopiesBack}
@@ -29,10 +28,11 @@ use Rattle.session.specs.declared.transactions.Connections.{Connections}
 use Rattle.session.proofs.Alike.{alike_begins, alike_copies, set_alike, set_other, transactions_of}
 use Rattle.session.proofs.Parking.{get_set, parked_count, parked_get, parked_set, set_got, set_length, set_twice}
 use Rattle.session.proofs.Showing.{in_range, stays, the_same}
+use Rattle.catalog.specs.Listed.{Listed}
 
 -- ---- a savepoint on other tables
 
-abbrev rebased_point : List Table → SavedAs ⊤ → SavedAs ⊤
+abbrev rebased_point : Listed → SavedAs ⊤ → SavedAs ⊤
 rebased_point tables p = record { state = p.state; tables = record { name = p.tables.name; tables = tables }; kept = p.kept }
 
 -- a connection has a transaction
@@ -56,15 +56,15 @@ either_case {P = P} a b same other = by_test (a == b) refl
 in_seat : (x : Option Seat) (s : Seat) → x ≡ Some s → s.transaction ≡ unwrap_or (option_map (λ (r : Seat). r.transaction) x) transaction.Idle
 in_seat x s is = sym (ap (λ (y : Option Seat). unwrap_or (option_map (λ (r : Seat). r.transaction) y) transaction.Idle) is)
 
-states_same : (tables : List Table) (points : List (SavedAs ⊤)) → map (λ p. p.state) (map (rebased_point tables) points) ≡ map (λ p. p.state) points
+states_same : (tables : Listed) (points : List (SavedAs ⊤)) → map (λ p. p.state) (map (rebased_point tables) points) ≡ map (λ p. p.state) points
 states_same tables [] = refl
 states_same tables (p ∷ ps) = ap (λ ss. p.state ∷ ss) (states_same tables ps)
 
-tables_same : (tables : List Table) (points : List (SavedAs ⊤)) → map (λ (p : SavedTables). record { name = p.name; tables = tables }) (map (λ p. p.tables) points) ≡ map (λ p. p.tables) (map (rebased_point tables) points)
+tables_same : (tables : Listed) (points : List (SavedAs ⊤)) → map (λ (p : SavedTables). record { name = p.name; tables = tables }) (map (λ p. p.tables) points) ≡ map (λ p. p.tables) (map (rebased_point tables) points)
 tables_same tables [] = refl
 tables_same tables (p ∷ ps) = ap (λ (ss : List SavedTables). record { name = p.tables.name; tables = tables } ∷ ss) (tables_same tables ps)
 
-all_unwritten : (old tables new : List Table) (points : List (SavedAs ⊤)) → tables ≡ new → AllByRecursion (IsUnwritten old) points → AllByRecursion (IsUnwritten new) (map (rebased_point tables) points)
+all_unwritten : (old tables new : Listed) (points : List (SavedAs ⊤)) → tables ≡ new → AllByRecursion (IsUnwritten old) points → AllByRecursion (IsUnwritten new) (map (rebased_point tables) points)
 all_unwritten old tables new [] same all = tt
 all_unwritten old tables new (p ∷ ps) same all = (record { named = all.0.named; working = all.0.working; tables = same }, all_unwritten old tables new ps same all.1)
 
@@ -101,7 +101,7 @@ module _ {D : Type 0} {g : Ghosts D} where
     settled = subst IsSettled (sym files) shown.settled;
     some = shown.some;
     stored = subst (λ (l : Log D g). ShowsDatabase (newest_view l) (newest_tables new) (newest m)) (sym files)
-        (subst (λ (ts : List Table). ShowsDatabase (newest_view (files_of old)) ts (newest m)) (sym (second.newest ∙ first.newest)) shown.stored);
+        (subst (λ (ts : Listed). ShowsDatabase (newest_view (files_of old)) ts (newest m)) (sym (second.newest ∙ first.newest)) shown.stored);
     sixteen = shown.sixteen;
     numbered = ap is_connection second.connection_is ∙ is;
     present = connection m n;
@@ -238,7 +238,7 @@ module _ {D : Type 0} {g : Ghosts D} where
 
   -- ---- the newest tables
 
-  taken_transaction : (files : Log D g) (old new : SavedCatalogs) (history : List Database) (tables : List Table) (t : Transaction) (k : Connection) → has_no_snapshot t ≡ true → Rebases tables old new → IsTransaction files old history t k → IsTransaction files new history t k
+  taken_transaction : (files : Log D g) (old new : SavedCatalogs) (history : List Database) (tables : Listed) (t : Transaction) (k : Connection) → has_no_snapshot t ≡ true → Rebases tables old new → IsTransaction files old history t k → IsTransaction files new history t k
   taken_transaction files old new history tables transaction.Idle k none takes is = (
     is.0,
     takes.current ∙ sym takes.committed,

@@ -15,7 +15,6 @@ use Rattle.catalog.specs.Database.{Database}
 use Rattle.session.specs.SavedTables.{HasNoSavepoints, IsUnchanged, Savepoints, committed_in, current_in, savepoints_in}
 use Rattle.session.specs.Saving.{in_transaction, states_of}
 use Rattle.session.specs.declared.savepoints.SavedCatalogs.{SavedCatalogs}
-use Rattle.catalog.specs.declared.tables.Table.{Table}
 use Rattle.pager.specs.Views.{View, newest_view, view_of}
 use Rattle.pager.specs.declared.writer.Writer.{Writer}
 use Rattle.session.specs.Supported.{CannotStore, StepSoFar, database_of}
@@ -48,6 +47,7 @@ use Rattle.session.proofs.Marked.{moved_on, over_on, went_back}
 use Rattle.session.proofs.MarksAtBegin.{at_begin, marks_at_begin, shows_begin, states_at_begin, tables_at_begin}
 use Rattle.pager.specs.Marks.{Changes, IsOverTheSame, marks_of, now_of}
 use Rattle.session.proofs.Applying.{Begun, IsFinish, IsErrorCause, alone, finish_alone, finish_in, refused_step, worked_gives, working, working_on, write_outcome_of, writes_alone, writes_reading}
+use Rattle.catalog.specs.Listed.{Listed}
 
 -- ---- commits
 
@@ -95,16 +95,16 @@ module _ {D : Type 0} {g : Ghosts D} where
   other_catalog files a b m transaction.Idle k same tables savepoints is = (is.0, tables ∙ is.1 ∙ sym same, savepoints ∙ is.2)
   other_catalog files a b m transaction.Begun k same tables savepoints is = other_reading a b NoSnapshot k same tables savepoints is
   other_catalog files a b m (transaction.Reading s) k same tables savepoints is =
-      (is.0, other_reading a b (Reads is.0) k same tables savepoints is.1, subst (λ (ts : List Table). IsSnapshotOf files ts m.history is.0 s) (sym same) is.2)
+      (is.0, other_reading a b (Reads is.0) k same tables savepoints is.1, subst (λ (ts : Listed). IsSnapshotOf files ts m.history is.0 s) (sym same) is.2)
   other_catalog files a b m (transaction.Writing w) k same tables savepoints is = record {
     db = is.db;
     points = is.points;
     is = is.is ∙ ap (λ (s : Savepoints). InTransactionOf s.began (states_of is.points) (Writes (last_place m) is.db)) (sym savepoints);
     may = is.may;
-    stored = subst (λ (ts : List Table). ShowsDatabase (view_of files w) ts is.db) (sym tables) is.stored;
+    stored = subst (λ (ts : Listed). ShowsDatabase (view_of files w) ts is.db) (sym tables) is.stored;
     saved = record { tables = ap (λ (s : Savepoints). s.points) savepoints ∙ is.saved.tables; hold = is.saved.hold };
     marks = is.marks;
-    base = subst (λ (ts : List Table). ShowsDatabase (newest_view files) ts (newest m)) (sym same) is.base;
+    base = subst (λ (ts : Listed). ShowsDatabase (newest_view files) ts (newest m)) (sym same) is.base;
   }
 
   -- ---- a change
@@ -195,7 +195,7 @@ module _ {D : Type 0} {g : Ghosts D} where
   }
 
   listed_on : (c : Connections D g) (m : Machine) → IsUnchanged c.catalog → ShowsDatabase (newest_view (files_of c)) (committed_in c.catalog) (newest m) → ShowsDatabase (newest_view (files_of c)) (current_in c.catalog) (newest m)
-  listed_on c m all base = subst (λ (ts : List Table). ShowsDatabase (newest_view (files_of c)) ts (newest m)) (sym all) base
+  listed_on c m all base = subst (λ (ts : Listed). ShowsDatabase (newest_view (files_of c)) ts (newest m)) (sym all) base
 
   -- a writer that has begun sees the pages of the newest commit
   -- where the write after it is refused
@@ -260,7 +260,7 @@ module _ {D : Type 0} {g : Ghosts D} where
           marks = marks ∙ sets.marks ∙ ap (λ (cs : List Changes). cs ++ replicate (length (savepoints_in old.catalog).points) (now_of w)) start.begun.marks
               ∙ marks_at_begin (now_of w) r.first.points (length (savepoints_in old.catalog).points) (ap length r.first.saved.tables ∙ length-map r.first.points (λ p. p.tables));
           base = subst (λ (v : View). ShowsDatabase v (committed_in after.catalog) (newest m)) (sym same.newest)
-              (subst (λ (ts : List Table). ShowsDatabase (newest_view (files_of old)) ts (newest m)) (sym (has.kept.tables ∙ ap committed_in start.catalog)) opened.base);
+              (subst (λ (ts : Listed). ShowsDatabase (newest_view (files_of old)) ts (newest m)) (sym (has.kept.tables ∙ ap committed_in start.catalog)) opened.base);
         }));
     crash = crash_keeps old after m (working_on b m old.connection has.made) shown same;
     renewed = λ more. not_longer m.history more;
@@ -294,7 +294,7 @@ module _ {D : Type 0} {g : Ghosts D} where
       back u now over =
           let on = moved_on mid w u (newest m) now (over_on w left u (over_on w marked left sets.stands stands) over) works in (
             still_writer (files_of mid) (files_of after) u has.kept.files on.writer,
-            subst (λ (ts : List Table). ShowsDatabase (view_of (files_of after) u) ts (newest m)) (ap current_in start.catalog ∙ opened.all)
+            subst (λ (ts : Listed). ShowsDatabase (view_of (files_of after) u) ts (newest m)) (ap current_in start.catalog ∙ opened.all)
                 (still_stored (files_of mid) (files_of after) u (current_in mid.catalog) (newest m) has.kept.files on.stored),
           )
 
@@ -343,7 +343,7 @@ module _ {D : Type 0} {g : Ghosts D} where
 
       newest_stored : ShowsDatabase (newest_view (files_of after)) (committed_in after.catalog) (newest m)
       newest_stored = subst (λ (v : View). ShowsDatabase v (committed_in after.catalog) (newest m)) (sym worked.newest)
-          (subst (λ (ts : List Table). ShowsDatabase (newest_view (files_of old)) ts (newest m)) (sym committed_same) opened.base)
+          (subst (λ (ts : Listed). ShowsDatabase (newest_view (files_of old)) ts (newest m)) (sym committed_same) opened.base)
 
       none_before : HasNoSavepoints old.catalog
       none_before = (none_where_idle old m old.transaction shown.present shown.transaction idle).1
@@ -419,7 +419,7 @@ module _ {D : Type 0} {g : Ghosts D} where
         };
         marks = marks ∙ t.marks;
         base = subst (λ (v : View). ShowsDatabase v (committed_in after.catalog) (newest m)) (sym kept.files.newest)
-            (subst (λ (ts : List Table). ShowsDatabase (newest_view (files_of mid)) ts (newest m)) (sym kept.tables) t.base);
+            (subst (λ (ts : Listed). ShowsDatabase (newest_view (files_of mid)) ts (newest m)) (sym kept.tables) t.base);
       }
 
       by_result : (r : Result ⊤ Fault) → Applies (written w) mid writer t.db r after left → IfErr r (λ f. now_of left ≡ now_of writer) → StepsTo old m (written w) (done_reply r) (with_transaction after (transaction.Writing left))

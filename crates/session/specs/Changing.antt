@@ -4,7 +4,7 @@ use Rattle.sqlval.specs.declared.fault.Fault.{Fault}
 use Rattle.disk.specs.declared.device.Disk.{Ghosts}
 use Rattle.sql_syntax.specs.declared.statement.Statement.{Statement}
 use Rattle.catalog.specs.Database.{Database}
-use Rattle.catalog.specs.Listed.{tables_of}
+use Rattle.catalog.specs.Listed.{listed_in, Listed}
 use Rattle.session.specs.SavedTables.{committed_in, current_in, savepoints_in}
 use Rattle.catalog.specs.declared.tables.Catalog.{Catalog}
 use Rattle.session.specs.declared.savepoints.SavedCatalogs.{SavedCatalogs}
@@ -60,7 +60,7 @@ module _ {D : Type 0} {g : Ghosts D} where
   abbrev pub MakesCatalog : Statement → Listing D g → Writer → Database → Result (Option Catalog) Fault → Log D g → Writer → Type 0
   MakesCatalog s old writer db (Ok None) files left = IsChangeMade s old db (listing files old.catalog) left
   MakesCatalog s old writer db (Ok (Some catalog)) files left =
-      (next : SavedCatalogs) → current_in next ≡ tables_of catalog → committed_in next ≡ committed_in old.catalog
+      (next : SavedCatalogs) → current_in next ≡ listed_in catalog → committed_in next ≡ committed_in old.catalog
       → savepoints_in next ≡ savepoints_in old.catalog
       → IsChangeMade s old db (listing files next) left
   MakesCatalog s old writer db (Err f) files left = IsChangeRefused s old db (listing files old.catalog) f

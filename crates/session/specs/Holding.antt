@@ -10,13 +10,13 @@ use Rattle.wal.specs.Sizes.{IsViewSize}
 use Rattle.wal.specs.Crashes.{HasNoChance}
 use Rattle.wal.specs.declared.log.Log.{Log}
 use Rattle.catalog.specs.Database.{Database}
-use Rattle.catalog.specs.declared.tables.Table.{Table}
 use Rattle.pager.specs.Views.{View, IsViewPage, newest_view}
 use Rattle.db_files.specs.Files.{FilesStandFor}
 use Rattle.db_pages.specs.Language.{supported_language}
 use Rattle.session.specs.Machine.{Machine}
 use Rattle.session.specs.Crashes.{MayShow}
 use Rattle.session.specs.Stored.{ShowsDatabase}
+use Rattle.catalog.specs.Listed.{Listed}
 
 -- Opening finds the view: the database file begins with a header of the view's page size, the view is as large as its last commit
 -- says, or that header where there is none, and page 1 counts so many pages, where its count holds.
@@ -42,7 +42,7 @@ pub record StoreFiles (db log : List ℕ) (database : Database) : Type 0 where
   pub db_is : view.db ≡ db
   pub commits : HasCommits view.page_size log view.frames
   pub found : IsFound view
-  pub tables : List Table
+  pub tables : Listed
   pub stored : ShowsDatabase view tables database
 
 -- Each pair of files that a crash may leave of these versions, where no frame of the log is accepted by chance, holds a database that

@@ -17,8 +17,7 @@ use Rattle.wal.specs.Anew.{begins_anew}
 use Rattle.wal.specs.LogState.{db_of, state_of, log_of, seen_by}
 use Rattle.wal.specs.Restarts.{next_header}
 use Rattle.wal_checkpoint.specs.declared.checkpoints.Counts.{Counts}
-use Rattle.catalog.specs.Listed.{tables_of}
-use Rattle.catalog.specs.declared.tables.Table.{Table}
+use Rattle.catalog.specs.Listed.{listed_in, Listed}
 use Rattle.session.specs.SavedTables.{HasNoSavepoints, IsUnchanged, Rebases, committed_in, current_in}
 use Rattle.session.specs.Seats.{IsIdleSeat, Trades, holds_writer, see_none}
 use Rattle.session.specs.declared.seats.Seat.{Seat}
@@ -103,11 +102,11 @@ pub record Beside : Type 0 where
   pub failed : Bool
   pub connection : ℕ
   pub parked : List Seat
-  pub newest : List Table
+  pub newest : Listed
 
 module _ {D : Type 0} {g : Ghosts D} where
   -- A snapshot shows the committed database of a place, which has these tables. It is of the newest commit, or older.
-  pub record IsSnapshotOf (files : Log D g) (tables : List Table) (history : List Database) (i : ℕ) (snapshot : Snapshot) : Type 0 where
+  pub record IsSnapshotOf (files : Log D g) (tables : Listed) (history : List Database) (i : ℕ) (snapshot : Snapshot) : Type 0 where
     pub shows : ShowsDatabase (view_at files snapshot) tables (committed_at history i)
     pub age : ((i ≡ last_in history) × IsNewest files snapshot) ⊎ ((i < last_in history) × (seen_by snapshot < (state_of files).frames))
 
@@ -137,8 +136,8 @@ module _ {D : Type 0} {g : Ghosts D} where
   AreParked files history _ _ = ⊥
 
   -- the tables of the newest commit
-  abbrev pub newest_tables : Connections D g → List Table
-  newest_tables c = tables_of c.newest.value
+  abbrev pub newest_tables : Connections D g → Listed
+  newest_tables c = listed_in c.newest.value
 
   -- The files hold the newest of the committed databases, its tables are listed, and each connection is where its transaction is: the present
   -- one, and the others, beside an idle one in its place.

@@ -3,18 +3,17 @@ use Rattle.std.specs.Prelude.{◌≡◌, ◌<◌, ◌+◌, ◌++◌, ℕ, Bool, 
 use Rattle.std.specs.List.{list_any}
 use Rattle.sqlval.specs.Names.{is_same_name}
 use Rattle.catalog.specs.Database.{Name}
-use Rattle.catalog.specs.Listed.{tables_of}
+use Rattle.catalog.specs.Listed.{listed_in, Listed}
 use Rattle.catalog.specs.declared.tables.Catalog.{Catalog}
 use Rattle.std.specs.declared.alloc.Global.{Global}
 use Rattle.std.specs.declared.rc.Rc.{Rc}
-use Rattle.catalog.specs.declared.tables.Table.{Table}
 use Rattle.session.specs.declared.savepoints.SavedCatalogs.{SavedCatalogs}
 use Rattle.session.specs.declared.savepoints.Savepoint.{Savepoint}
 
 -- a savepoint's name as it was written, and the tables that there were when it was made
 pub record SavedTables : Type 0 where
   pub name : Name
-  pub tables : List Table
+  pub tables : Listed
 
 -- what is kept of a transaction's savepoints: whether one of them began it, and each, the newest last
 pub record Savepoints : Type 0 where
@@ -26,29 +25,29 @@ abbrev pub is_called : Name → Savepoint → Bool
 is_called name s = is_same_name s.name name
 
 -- these tables, or those that they were changed to
-abbrev pub changed_to : List Table → Option (Rc Catalog Global) → List Table
-changed_to tables changed = unwrap_or (option_map (λ shared. tables_of shared.value) changed) tables
+abbrev pub changed_to : Listed → Option (Rc Catalog Global) → Listed
+changed_to tables changed = unwrap_or (option_map (λ shared. listed_in shared.value) changed) tables
 
 -- the tables after the changes of these savepoints
-abbrev pub tables_after : List Table → List Savepoint → List Table
+abbrev pub tables_after : Listed → List Savepoint → Listed
 tables_after tables [] = tables
 tables_after tables (s ∷ ss) = tables_after (changed_to tables s.changed) ss
 
 -- each of these savepoints with the tables that there were when it was made
-abbrev pub saved_after : List Table → List Savepoint → List SavedTables
+abbrev pub saved_after : Listed → List Savepoint → List SavedTables
 saved_after tables [] = []
 saved_after tables (s ∷ ss) = record { name = s.name; tables = tables } ∷ saved_after (changed_to tables s.changed) ss
 
 -- the tables of the snapshot that the transaction reads on
-abbrev pub committed_in : SavedCatalogs → List Table
-committed_in saved = tables_of saved.committed.value
+abbrev pub committed_in : SavedCatalogs → Listed
+committed_in saved = listed_in saved.committed.value
 
 -- the tables as they were changed before the first savepoint
-abbrev pub first_in : SavedCatalogs → List Table
+abbrev pub first_in : SavedCatalogs → Listed
 first_in saved = changed_to (committed_in saved) saved.changed
 
 -- the tables that an open transaction sees
-abbrev pub current_in : SavedCatalogs → List Table
+abbrev pub current_in : SavedCatalogs → Listed
 current_in saved = tables_after (first_in saved) saved.savepoints.items
 
 -- its savepoints
@@ -106,11 +105,11 @@ abbrev pub unchanged : Savepoint → Savepoint
 unchanged s = record s { changed = None }
 
 -- the savepoints, where there were these tables when each was made
-abbrev pub rebased : List Table → Savepoints → Savepoints
+abbrev pub rebased : Listed → Savepoints → Savepoints
 rebased tables saved = record { began = saved.began; points = map (λ p. record { name = p.name; tables = tables }) saved.points }
 
 -- the transaction, and each of its savepoints, goes on from these tables
-pub record Rebases (tables : List Table) (old new : SavedCatalogs) : Type 0 where
+pub record Rebases (tables : Listed) (old new : SavedCatalogs) : Type 0 where
   pub current : current_in new ≡ tables
   pub committed : committed_in new ≡ tables
   pub savepoints : savepoints_in new ≡ rebased tables (savepoints_in old)

@@ -4,7 +4,6 @@ use Rattle.std.specs.List.{AllByRecursion}
 use Rattle.disk.specs.declared.device.Disk.{Ghosts}
 use Rattle.sqlval.specs.Names.{folded}
 use Rattle.catalog.specs.Database.{Database}
-use Rattle.catalog.specs.declared.tables.Table.{Table}
 use Rattle.wal.specs.declared.log.Log.{Log}
 use Rattle.pager.specs.Marks.{Changes, IsOverTheSame, marks_of, now_of}
 use Rattle.pager.specs.Views.{view_of}
@@ -16,6 +15,7 @@ use Rattle.session.specs.Writers.{IsWriter}
 use Rattle.session.specs.declared.savepoints.SavedCatalogs.{SavedCatalogs}
 use Rattle.session.specs.declared.seats.Transaction.{Transaction}
 use Rattle.session.specs.declared.seats.Transaction.TheVariants as transaction
+use Rattle.catalog.specs.Listed.{Listed}
 
 -- a savepoint of the machine, what is kept of its tables, and what else is kept of it
 pub record SavedAs (Kept : Type 0) : Type 0 where
@@ -41,7 +41,7 @@ abbrev pub IsOfName : {Kept : Type 0} → SavedAs Kept → Type 0
 IsOfName p = p.state.name ≡ folded p.tables.name
 
 -- before the first write: it goes back to the committed tables
-pub record IsUnwritten (committed : List Table) (p : SavedAs ⊤) : Type 0 where
+pub record IsUnwritten (committed : Listed) (p : SavedAs ⊤) : Type 0 where
   pub named : IsOfName p
   pub working : p.state.working ≡ None
   pub tables : p.tables.tables ≡ committed

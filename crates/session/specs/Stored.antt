@@ -2,12 +2,12 @@
 use Rattle.std.specs.Prelude.{List}
 use Rattle.wal.specs.Sizes.{IsSizeWithinLimits}
 use Rattle.catalog.specs.Database.{Database}
-use Rattle.catalog.specs.declared.tables.Table.{Table}
 use Rattle.pager.specs.Maps.{pages_in}
 use Rattle.pager.specs.Views.{View}
 use Rattle.db_pages.specs.Stored.{Stores}
+use Rattle.catalog.specs.Listed.{Listed}
 
 -- The view's pages hold the database of these tables, and are no more than there may be.
-pub record ShowsDatabase (view : View) (tables : List Table) (db : Database) : Type 0 where
+pub record ShowsDatabase (view : View) (tables : Listed) (db : Database) : Type 0 where
   pub stored : Stores (pages_in view) view.page_size tables db
   pub served : IsSizeWithinLimits view.page_size view.size

@@ -6,12 +6,12 @@ ghost use Rattle.executor.specs.Forms as supported_forms;
 
 use sql_syntax::{NewObject, Statement};
 
-/// Whether it is a table or an index.
+/// Whether it is a table, an index or a view.
 fn is_object_supported(object: &NewObject) -> bool
     ensures { result ≡ object_forms.is_object_supported object.now }
 {
     match object {
-        NewObject::Table(_) | NewObject::Index(_) => true,
+        NewObject::Table(_) | NewObject::Index(_) | NewObject::View(_) => true,
         _ => false,
     }
 }

@@ -2,7 +2,7 @@
 
 ghost use Rattle.std.specs.Prelude.{◌≡◌, ◌≤◌, map, false};
 ghost use Rattle.catalog.specs.Database.{Database};
-ghost use Rattle.catalog.specs.Listed.{tables_of};
+ghost use Rattle.catalog.specs.Listed.{Listed, listed_in};
 ghost use Rattle.pager.specs.Views.{Tells, view_at, view_of};
 ghost use Rattle.row_scan.specs.Rows.{values_of};
 ghost use Rattle.wal.specs.LogState.{state_of, seen_by};
@@ -44,7 +44,7 @@ fn read_snapshot<D: Disk + Drop>(
     ensures same { Tells log.old → ShowTheSame log.old log.new }
     ensures answered { (db : Database) → Tells log.old
         → seen_by snapshot ≤ (state_of log.old).frames
-        → ShowsDatabase (view_at log.old snapshot) (tables_of catalog.now) db
+        → ShowsDatabase (view_at log.old snapshot) (listed_in catalog.now) db
         → AnswersRead (λ rows. map values_of rows.items) (read_on db query.now) result }
 {
     let mut pages = Reading {
@@ -67,7 +67,7 @@ fn read_changes<D: Disk + Drop>(
     ensures cause { HasCause false result log.old log.new }
     ensures same { Tells log.old → ShowTheSame log.old log.new }
     ensures answered { (db : Database) → Tells log.old → IsWriter log.old writer.now
-        → ShowsDatabase (view_of log.old writer.now) (tables_of catalog.now) db
+        → ShowsDatabase (view_of log.old writer.now) (listed_in catalog.now) db
         → AnswersRead (λ rows. map values_of rows.items) (read_on db query.now) result }
 {
     let mut pages = Viewing {
@@ -91,7 +91,7 @@ pub fn read<D: Disk + Drop>(
     ensures cause { HasCause false result log.old log.new }
     ensures same { Tells log.old → ShowTheSame log.old log.new }
     ensures answered { (db : Database) → Tells log.old → IsSightOf log.old sight.entry
-        → ShowsDatabase (view_by log.old sight.entry) (tables_of catalog.now) db
+        → ShowsDatabase (view_by log.old sight.entry) (listed_in catalog.now) db
         → AnswersRead (λ rows. map values_of rows.items) (read_on db query.now) result }
 {
     match sight {

@@ -2,7 +2,7 @@
 
 ghost use Rattle.std.specs.Prelude.{◌≡◌, ◌<◌, ◌≤◌, ◌-◌, ◌==◌, ◌&&◌, length, map, nat_lt, IfErr, IfNone, IfSome, None, OnOk, true, false};
 ghost use Rattle.std.specs.List.{list_any};
-ghost use Rattle.catalog.specs.Listed.{tables_of};
+ghost use Rattle.catalog.specs.Listed.{Listed, listed_in};
 ghost use Rattle.sqlval.specs.Names.{is_same_name};
 ghost use Rattle.sqlval.specs.declared.fault.Fault.TheVariants.{Memory};
 ghost use Rattle.session.specs.SavedTables.{changed_to, tables_after, unchanged};
@@ -53,8 +53,8 @@ impl SavedCatalogs {
 
     /// No transaction has changed the tables, and there is no savepoint.
     pub fn new(alloc: Global, committed: Rc<Catalog>) -> SavedCatalogs
-        ensures current { current_in result ≡ tables_of committed.value }
-        ensures committed { committed_in result ≡ tables_of committed.value }
+        ensures current { current_in result ≡ listed_in committed.value }
+        ensures committed { committed_in result ≡ listed_in committed.value }
         ensures none { HasNoSavepoints result }
     {
         SavedCatalogs {
@@ -67,7 +67,7 @@ impl SavedCatalogs {
 
     /// The tables that the transaction sees.
     pub fn current(&self) -> &Catalog
-        ensures { tables_of result.now ≡ current_in self.now }
+        ensures { listed_in result.now ≡ current_in self.now }
     {
         match &self.changed {
             Some(changed) => latest(changed, &self.savepoints),
@@ -77,7 +77,7 @@ impl SavedCatalogs {
 
     /// A transaction that has changed no table goes on from these, and so do its savepoints.
     pub fn rebase(&mut self, newest: Rc<Catalog>)
-        ensures { Rebases (tables_of newest.value) self.old self.new }
+        ensures { Rebases (listed_in newest.value) self.old self.new }
     {
         self.committed = newest;
         self.changed = None;
@@ -97,7 +97,7 @@ impl SavedCatalogs {
 
     /// The transaction sees these tables from now on. An `Err` changes nothing. (`Memory` alone.)
     pub fn change_to(&mut self, alloc: Global, tables: Catalog) -> R<()>
-        ensures current { OnOk result (current_in self.new ≡ tables_of tables) }
+        ensures current { OnOk result (current_in self.new ≡ listed_in tables) }
         ensures committed { committed_in self.new ≡ committed_in self.old }
         ensures savepoints { savepoints_in self.new ≡ savepoints_in self.old }
         ensures refused { IfErr result (λ fault. (fault ≡ Memory) × (self.new ≡ self.old)) }
@@ -109,7 +109,7 @@ impl SavedCatalogs {
 
     /// The transaction sees these tables from now on.
     fn change(&mut self, catalog: Rc<Catalog>)
-        ensures current { current_in self.new ≡ tables_of catalog.value }
+        ensures current { current_in self.new ≡ listed_in catalog.value }
         ensures committed { committed_in self.new ≡ committed_in self.old }
         ensures savepoints { savepoints_in self.new ≡ savepoints_in self.old }
     {
@@ -226,7 +226,7 @@ impl SavedCatalogs {
 
     /// What the transaction sees are the newest tables, and its savepoints are gone. It keeps those that were the newest.
     pub fn commit(&mut self, newest: &mut Rc<Catalog>)
-        ensures newest { tables_of newest.new.value ≡ current_in self.old }
+        ensures newest { listed_in newest.new.value ≡ current_in self.old }
         ensures unchanged { IsUnchanged self.new }
         ensures none { HasNoSavepoints self.new }
     {
@@ -261,7 +261,7 @@ impl SavedCatalogs {
 
 /// The tables after the changes of these savepoints.
 fn latest<'a>(before: &'a Catalog, savepoints: &'a [Savepoint]) -> &'a Catalog
-    ensures { tables_of result.now ≡ tables_after (tables_of before.now) savepoints.now }
+    ensures { listed_in result.now ≡ tables_after (listed_in before.now) savepoints.now }
 {
     let mut latest = before;
     'parts: for savepoint in savepoints {

@@ -7,7 +7,7 @@ ghost use Rattle.pager.specs.Views.{Tells, newest_view};
 ghost use Rattle.executor.specs.Forms.{KeepsItsText, WhereSupported};
 ghost use Rattle.session.specs.Stored.{ShowsDatabase};
 ghost use Rattle.catalog.specs.Database.{Database};
-ghost use Rattle.catalog.specs.Listed.{tables_of};
+ghost use Rattle.catalog.specs.Listed.{Listed, listed_in};
 ghost use Rattle.executor.specs.Forms as forms;
 ghost use Rattle.wal.specs.LogState.{db_of, log_of};
 ghost use Rattle.session.specs.Limits.{may_be_full};
@@ -70,7 +70,7 @@ impl<D: Disk + Drop> Connections<D> {
         ensures whole { IsFalse (has_failed_in result) }
         // Where the files hold a database and the catalog lists its tables, the connections represent its machine.
         ensures shown { (db : Database) → Tells log → IsSettled log → AreFresh seats
-            → ShowsDatabase (newest_view log) (tables_of (catalog_in seats)) db
+            → ShowsDatabase (newest_view log) (listed_in (catalog_in seats)) db
             → RepresentsRunning result (fresh db) }
     {
         let Seats {

@@ -3,3 +3,4 @@ pub mod BindingRows
 mod EffectRows
 mod OnlyTables
 mod Updating
+mod ReadOnlyViews

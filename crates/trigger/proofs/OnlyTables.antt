@@ -1,4 +1,4 @@
--- A database that only has tables and indexes.
+-- A database without triggers.
 use Rattle.std.proofs.Common.{◌≡◌, refl, sym, ap, subst, ◌∙◌, ℕ, zero, suc, ◌<◌, Bool, true, false, List, [], ◌∷◌, ◌++◌, Option, Some, None, Ok, Err, map, length, ℤ, pos, arith}
 use Rattle.std.specs.Prelude.{filter, flat_map, not, Contains}
 use Rattle.std.proofs.lemmas.Bool.{false≢true}
@@ -11,7 +11,7 @@ use Rattle.sql_syntax.specs.declared.change.Insert.{Insert}
 use Rattle.sql_syntax.specs.declared.change.Change.TheVariants as statement
 use Rattle.catalog.specs.Database as database
 use Rattle.catalog.specs.Database.{Name, Database, Object, ATable, AnIndex, AView, ATrigger, object, triggers_of, with_object}
-use Rattle.catalog.specs.Listed.{has_only_plain, with_rows}
+use Rattle.catalog.specs.Listed.{has_no_trigger, with_rows}
 use Rattle.catalog.specs.declared.tables.Table.{Table}
 use Rattle.query_names.specs.Checked.{Checked, Meant, faults, known_then}
 use Rattle.query_names.specs.Readings.{holds}
@@ -30,11 +30,11 @@ use Rattle.trigger.specs.Effects.{change_with, given_rows, programs, run_resolve
 use Rattle.trigger.specs.Laws.{BindsAlone, DeleteTakesChosen, DeleteTakesRows, InsertAddsRows, InsertIsRefused, InsertOfNoneStays, SetsNothingOff}
 use Rattle.trigger.specs.Triggers.{Runner, fired}
 
-no_triggers : (db : Database) (name : Name) → has_only_plain db ≡ true → triggers_of db name ≡ []
+pub no_triggers : (db : Database) (name : Name) → has_no_trigger db ≡ true → triggers_of db name ≡ []
 no_triggers [] name h = refl
 no_triggers ((n, ATable t) ∷ db) name h = no_triggers db name h
 no_triggers ((n, AnIndex i) ∷ db) name h = no_triggers db name h
-no_triggers ((n, AView v) ∷ db) name h = absurd (false≢true h)
+no_triggers ((n, AView v) ∷ db) name h = no_triggers db name h
 no_triggers ((n, ATrigger t) ∷ db) name h = absurd (false≢true h)
 
 pub sets_nothing_off : SetsNothingOff
@@ -42,7 +42,7 @@ sets_nothing_off run running time firing db only = rw (no_triggers db firing.tar
 
 -- ---- binding
 
-none_for : (db : Database) (aim : Aim) → has_only_plain db ≡ true → triggers_for db aim ≡ []
+none_for : (db : Database) (aim : Aim) → has_no_trigger db ≡ true → triggers_for db aim ≡ []
 none_for db aim only = rw (no_triggers db aim.target only) refl
 
 pub binds_alone : BindsAlone

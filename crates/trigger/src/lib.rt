@@ -1,11 +1,11 @@
 //! The effect of a statement that changes rows, with the triggers that it sets off, as definitions.
 #![tactic(auto)]
 
-ghost use Rattle.trigger.specs.Laws.{BindsAlone, DeleteTakesChosen, DeleteTakesRows, InsertAddsRows, InsertIsRefused, InsertOfNoneStays, SetsNothingOff, UpdateSetsRows};
+ghost use Rattle.trigger.specs.Laws.{BindsAlone, DeleteTakesChosen, DeleteTakesRows, InsertAddsRows, InsertIsRefused, InsertOfNoneStays, SetsNothingOff, UpdateSetsRows, ViewsAreReadOnly};
 
 use row_change::{delete_takes_its_rows, insert_adds_its_rows, update_sets_its_rows};
 
-/// In a database of tables alone no trigger fires: an INSERT adds its rows, or is refused as they are,
+/// In a database without triggers none fires: an INSERT adds its rows, or is refused as they are,
 /// and a DELETE takes all rows out, or those for which its condition is true.
 pub fn only_tables_set_nothing_off()
     ensures still { SetsNothingOff }
@@ -20,9 +20,14 @@ pub fn only_tables_set_nothing_off()
     delete_takes_its_rows();
 }
 
-/// In a database of tables alone an UPDATE sets values in all rows, or in those for which its condition is true, or is refused as they are.
+/// In a database without triggers an UPDATE sets values in all rows, or in those for which its condition is true, or is refused as they are.
 pub fn update_sets_off_nothing()
     ensures { UpdateSetsRows }
 {
     update_sets_its_rows();
 }
+
+/// In a database without triggers a change of a view is refused.
+pub fn views_are_read_only()
+    ensures { ViewsAreReadOnly }
+{}

@@ -1,4 +1,4 @@
-use Rattle.catalog.specs.Listed.{tables_of}
+use Rattle.catalog.specs.Listed.{listed_in}
 use Rattle.db_load.proofs.ToldIndexes.{index_found}
 use Rattle.db_load.proofs.RowsFound.{sound_once}
 use Rattle.db_load.proofs.SchemaTables.{memory_of}
@@ -11,9 +11,9 @@ returns-in_err-table-clause-tells c = λ table index tells can.
 
 pub returns-clause-tells : goal.returns-clause-tells
 returns-clause-tells c = λ table index tells can.
-    index_adds table index c.in_ok-table.table (tables_of c.args.catalog.now) _ can.sound.named can.fresh (c.in_ok-table.ensures.tells table index tells can) c.in_ok-catalog.ensures.replaced
+    index_adds table index c.in_ok-table.table (listed_in c.args.catalog.now) _ can.sound.named can.fresh (c.in_ok-table.ensures.tells table index tells can) c.in_ok-catalog.ensures.replaced
 
 pub returns-clause-found : goal.returns-clause-found
-returns-clause-found c = λ kind sound.
-    (let tables = tables_of c.args.catalog.now in
-    index_found c.args.row.now c.in_ok-table.table tables _ kind sound (c.in_ok-table.ensures.found (sound_once tables sound)) c.in_ok-catalog.ensures.replaced)
+returns-clause-found c = λ its_kind sound.
+    (let all = listed_in c.args.catalog.now in
+    index_found c.args.row.now c.in_ok-table.table all _ its_kind sound (c.in_ok-table.ensures.found (sound_once all sound)) c.in_ok-catalog.ensures.replaced)

@@ -2,8 +2,8 @@ use Rattle.std.proofs.lemmas.Int.{to_z-of_z}
 use Rattle.std.proofs.Common.{rules, SFits, w64, ◌∙◌, refl, sym, subst, ap, inl, codes, Ok, Err, IsTrue, List, Option, option_map}
 use Rattle.sqlval.specs.declared.text.Text.{Text}
 use Rattle.sqlval.specs.declared.value.Value.{Value}
-use Rattle.catalog.specs.Listed.{tables_of, with_replaced}
-use Rattle.catalog.specs.NewIndexes.{with_index}
+use Rattle.catalog.specs.Listed.{listed_in}
+use Rattle.catalog.specs.NewIndexes.{with_index, replacing}
 use Rattle.catalog.specs.declared.tables.Index.{Index}
 use Rattle.catalog.specs.declared.tables.Table.{Table}
 use Rattle.db_pages.specs.Schema.{schema_row}
@@ -18,7 +18,7 @@ returns-in_err-index-clause-listed g c told db held named new_name said =
     let f = c.in_err-index.field-0.0 in
     let adds = rw (c.as_slice.ensures) at (c.in_err-index.ensures.added told) in
     handed_on _ _ c.from_residual-in_err-index.result f c.from_residual-in_err-index.ensures.1
-    (refused_tree laws _ _ (tables_of c.args.catalog.now) db held c.args.table.now named c.args.index new_name c.args.name.now _ said (g.P.Pages.map c.add_index.new.pages) f adds)
+    (refused_tree laws _ _ (listed_in c.args.catalog.now) db held c.args.table.now named c.args.index new_name c.args.name.now _ said (g.P.Pages.map c.add_index.new.pages) f adds)
 
 pub returns-in_err-add_row-clause-listed : goal.returns-in_err-add_row-clause-listed
 returns-in_err-add_row-clause-listed g c told db held named new_name said =
@@ -37,7 +37,7 @@ returns-in_err-add_row-clause-listed g c told db held named new_name said =
     (subst (λ k. AddsRow mid new (pages.limits k).page rowid c.deref.result.now (Err f)) c.add_index.ensures.kept
     (subst (λ z. AddsRow mid new (pages.limits (pages.below c.add_index.new.pages)).page z c.deref.result.now (Err f)) (to_z-of_z w64 rowid fits) (c.in_err-add_row.ensures.added told_then))) in
     handed_on _ _ c.from_residual-in_err-add_row.result f c.from_residual-in_err-add_row.ensures.1
-    (row_refused laws _ _ (tables_of c.args.catalog.now) db held c.args.table.now named c.args.index new_name c.args.name.now _ said root rowid mid new (rw (c.as_slice.ensures) at (c.in_ok-index.ensures.added told)) c.in_ok-rowid.ensures.free f adds)
+    (row_refused laws _ _ (listed_in c.args.catalog.now) db held c.args.table.now named c.args.index new_name c.args.name.now _ said root rowid mid new (rw (c.as_slice.ensures) at (c.in_ok-index.ensures.added told)) c.in_ok-rowid.ensures.free f adds)
 
 pub returns-clause-listed : goal.returns-clause-listed
 returns-clause-listed g c told db held named new_name said =
@@ -56,7 +56,7 @@ returns-clause-listed g c told db held named new_name said =
     (subst (λ z. AddsRow mid new (pages.limits (pages.below c.add_index.new.pages)).page z c.deref.result.now (Ok tt)) (to_z-of_z w64 rowid fits) (c.in_ok-add_row.ensures.added told_then))) in
     taken _ _ _ c.replacing.result c.replacing.ensures.replaced c.replacing.ensures.refused
     (λ catalog listed.
-    row_added laws _ _ (tables_of c.args.catalog.now) db held c.args.table.now named c.args.index new_name c.args.name.now _ said root rowid mid new (rw (c.as_slice.ensures) at (c.in_ok-index.ensures.added told)) c.in_ok-rowid.ensures.free adds (tables_of catalog)
-    (listed ∙ (ap (λ (u : Table). with_replaced u (tables_of c.args.catalog.now)) c.in_ok-with_index.ensures
-    ∙ ap (λ z. with_replaced (with_index (record c.args.index { root = root; rowid = z }) c.args.table.now) (tables_of c.args.catalog.now)) (to_z-of_z w64 rowid fits))))
+    row_added laws _ _ (listed_in c.args.catalog.now) db held c.args.table.now named c.args.index new_name c.args.name.now _ said root rowid mid new (rw (c.as_slice.ensures) at (c.in_ok-index.ensures.added told)) c.in_ok-rowid.ensures.free adds (listed_in catalog)
+    (listed ∙ (ap (λ (u : Table). replacing u (listed_in c.args.catalog.now)) c.in_ok-with_index.ensures
+    ∙ ap (λ z. replacing (with_index (record c.args.index { root = root; rowid = z }) c.args.table.now) (listed_in c.args.catalog.now)) (to_z-of_z w64 rowid fits))))
     (inl (inl (inl refl)))

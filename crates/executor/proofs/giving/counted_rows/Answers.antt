@@ -23,4 +23,4 @@ returns-clause-given g c db query told stored placed asks =
     (let same : (c.args.count == length c.args.bound.now.reading.results) ≡ true = search rules in
     bound_read (λ found. map values_of found.items) (answer_of db [] c.args.bound.now.reading) (given_on db c.args.count (source.Query query)) c.bound_rows.result
     (well_counted db c.args.count query c.args.bound.now.reading asks.0 asks.1 same)
-    (c.bound_rows.ensures.answered told db stored placed))
+    (c.bound_rows.ensures.answered told db query stored placed asks.0))

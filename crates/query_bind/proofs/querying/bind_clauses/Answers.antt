@@ -32,7 +32,7 @@ returns-in_err-orders-clause-named c = λ tables.
 
 pub returns-in_err-filter-clause-named : goal.returns-in_err-filter-clause-named
 returns-in_err-filter-clause-named c = λ tables.
-    let h = filter_refused c.args.scope.now c.args.query.now c.args.joined.items c.in_err-filter.field-0.0 (c.in_err-filter.ensures tables.0) in
+    let h = filter_refused c.args.scope.now c.args.query.now c.args.joined.items c.in_err-filter.field-0.0 (c.in_err-filter.ensures.named tables.0) in
     search rules
 
 pub returns-clause-named : goal.returns-clause-named
@@ -44,4 +44,4 @@ returns-clause-named c = λ tables.
     subst (λ es. resolve_items c.args.scope.now es ≡ Meant c.in_ok-results.results.items []) c.as_slice-items.ensures (c.in_ok-results.ensures tables.0) in
     let orders : orders_checked (map (order_given c.args.scope.now c.args.query.now.results c.in_ok-results.results.items) c.args.query.now.order) ≡ Meant c.in_ok-orders.orders.items [] =
     rw (sym c.as_slice-items.ensures, sym c.deref.ensures.value, sym c.as_slice-2.ensures) (c.in_ok-orders.ensures tables) in
-    subst (λ k. Names k c.reading_of.result) (sym (clauses_named c.args.scope.now c.args.query.now p tables (c.in_ok-filter.ensures tables.0) keys results orders)) c.reading_of.ensures.named
+    subst (λ k. Names k c.reading_of.result) (sym (clauses_named c.args.scope.now c.args.query.now p tables (c.in_ok-filter.ensures.named tables.0) keys results orders)) c.reading_of.ensures.named

@@ -8,7 +8,7 @@ use Rattle.wal.specs.LogState.{LogState, db_of, state_of, log_of}
 use Rattle.db_header.specs.Header.{IsHeader}
 use Rattle.wal.specs.Opened.{CanOpen}
 use Rattle.wal.specs.Sizes.{IsSizeWithinLimits}
-use Rattle.catalog.specs.Listed.{tables_of}
+use Rattle.catalog.specs.Listed.{listed_in, Listed}
 use Rattle.session.specs.Seats.{catalog_in}
 use Rattle.pager.specs.Views.{Tells, newest_view}
 use Rattle.engine.specs.Creating.{is_blank_content}
@@ -150,7 +150,7 @@ returns-in-Ok-load_and_truncate g c =
               database = found.database;
               held = held_if_stored _ _ found.database
                   (held_as _ _ (file c.args.db).content (file c.args.log).content found.database (sym (were.db_kept.same told_db)) (sym (were.log_kept.same told_log)) (found_held opened _ (catalog_in c.in-Ok-load_and_truncate.seats) found served view known));
-              shown = starts_shown _ found.database c.load_and_truncate.new.log _ (c.in-Ok-load_and_truncate.ensures.opens (tables_of (catalog_in c.in-Ok-load_and_truncate.seats)) found.database tells settled (record { stored = found.stored; served = served })) c.new.ensures.shown;
+              shown = starts_shown _ found.database c.load_and_truncate.new.log _ (c.in-Ok-load_and_truncate.ensures.opens (listed_in (catalog_in c.in-Ok-load_and_truncate.seats)) found.database tells settled (record { stored = found.stored; served = served })) c.new.ensures.shown;
             };
         whole = c.new.ensures.whole;
         not_blank = λ told_db blank. c.in-Ok.ensures.blank (told told_db) (ap is_blank_content (synced.db_kept.same told_db) ∙ blank);

@@ -1,7 +1,7 @@
 use Rattle.std.proofs.Common.{refl, sym, ap, ◌∙◌, false}
 use Rattle.std.specs.Prelude.{Vec}
 use Rattle.std.specs.declared.alloc.Global.{Global}
-use Rattle.catalog.specs.Listed.{tables_of}
+use Rattle.catalog.specs.Listed.{listed_in, Listed}
 use Rattle.catalog.specs.declared.tables.Catalog.{Catalog}
 use Rattle.std.specs.declared.rc.Rc.{Rc}
 use Rattle.session.specs.SavedTables.{Savepoints}
@@ -11,7 +11,7 @@ use Rattle.session.proofs.savepoints.SavedCatalogs.commit.Goals as goal
 
 pub returns-clause-newest : goal.returns-clause-newest
 returns-clause-newest c =
-    ap (λ (r : Rc Catalog Global). tables_of r.value) c.swap.ensures.y_after ∙ c.settle_changes.ensures.committed
+    ap (λ (r : Rc Catalog Global). listed_in r.value) c.swap.ensures.y_after ∙ c.settle_changes.ensures.committed
     ∙ sym (no_parts c.release.new.self (ap (λ (s : Savepoints). s.points) c.release.ensures.savepoints)) ∙ c.release.ensures.current
 
 pub returns-clause-unchanged : goal.returns-clause-unchanged
