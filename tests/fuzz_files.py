@@ -195,7 +195,7 @@ class Image:
         return [(cell.rowid, record(self.payload(node, cell))) for _, node in self.tree(root) if node.kind == 13 for cell in node.cells]
 
     def roots(self):
-        return [1, *(values[3] for _, values in self.rows(1))]
+        return [1, *(values[3] for _, values in self.rows(1) if values[3])]
 
     @functools.cached_property
     def nodes(self):
@@ -326,6 +326,22 @@ def keyed(chance, base, usable):
             yield
 
 
+def triggered(chance, base, usable):
+    """Tables with triggers that no INSERT and no DELETE sets off. (Without views: beside one SQLite may check a part of a file alone.)"""
+    base.execute("CREATE TABLE t(a INTEGER, b TEXT)")
+    base.execute("CREATE TABLE log(x, y TEXT)")
+    yield
+    base.execute("CREATE TRIGGER g AFTER UPDATE ON t WHEN NEW.a > OLD.a BEGIN INSERT INTO log VALUES (NEW.a, OLD.b); DELETE FROM log WHERE x = 0; END")
+    base.execute("CREATE TRIGGER \"h h\" BEFORE UPDATE OF b, a ON t BEGIN SELECT RAISE(ABORT, 'no') WHERE NEW.b = 'none'; END")
+    base.execute("CREATE TRIGGER k AFTER UPDATE OF y ON log BEGIN UPDATE log SET x = NULL WHERE y = NEW.y; END")
+    yield
+    for turn in range(3):
+        for place in range(usable // 60):
+            base.execute("INSERT INTO t VALUES (?, ?)", (turn * place, words(chance, 20)))
+            base.execute("INSERT INTO log VALUES (?, ?)", (chance.choice([None, place]), words(chance, 9)))
+        yield
+
+
 def made(chance, fill, usable, kind):
     """A file of these rows, of which some are taken out again, and of a table that is dropped. With a log, what came last is there alone."""
     folder = tempfile.mkdtemp()
@@ -381,7 +397,7 @@ def fixed(image, kind):
 def bases(seed):
     """Each file before it is changed, with its name."""
     for usable in SIZES:
-        for fill in (rules, long, many, deep, keyed):
+        for fill in (rules, long, many, deep, keyed, triggered):
             for kind in (NO_LOG, LOG, chance_of(seed, usable, fill.__name__).choice([STALE_LOG, OPEN_LOG])):
                 yield f"{fill.__name__}, pages of {usable}, {kind}", made(chance_of(seed, usable, fill.__name__, kind), fill, usable, kind)
 

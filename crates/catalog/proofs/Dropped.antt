@@ -1,5 +1,5 @@
--- A listed database without one of its tables and that table's indexes.
-use Rattle.std.proofs.Common.{◌≡◌, refl, sym, ap, subst, ◌∙◌, ℕ, ℤ, Bool, true, false, ◌||◌, List, [], ◌∷◌, ◌++◌, map, filter, not, Option, Some, None, cond}
+-- A listed database without one of its objects, and without what goes with it.
+use Rattle.std.proofs.Common.{◌≡◌, refl, sym, ap, subst, ◌∙◌, ℕ, ℤ, Bool, true, false, ◌||◌, List, [], ◌∷◌, ◌++◌, append_assoc, map, filter, not, Option, Some, None, cond}
 use Rattle.std.proofs.lemmas.Bool.{false≢true}
 use Rattle.std.proofs.lemmas.List.Elements.{filter-append}
 use Rattle.std.proofs.lemmas.Map.Lookups.{exact_bytes}
@@ -14,11 +14,12 @@ use Rattle.std.specs.Str.{bytes_eq}
 use Rattle.sqlval.specs.Lists.{any_twice}
 use Rattle.sqlval.specs.Names.{folded, is_same_name}
 use Rattle.sqlval.specs.declared.value.Value.{Value}
-use Rattle.catalog.specs.Database.{Name, Database, Object, ATable, AnIndex, AView, ATrigger, name_order}
-use Rattle.catalog.specs.Listed.{Listed, are_named_once, has_no_trigger, index_objects, is_table, named_among, names_of, objects_of, as_index, table_named, table_object, view_object, without_table}
-use Rattle.catalog.specs.Named.{ListsOthers, goes_with_table, without_table_object}
+use Rattle.catalog.specs.Database.{Name, Database, Object, ATable, AnIndex, AView, ATrigger, name_order, object}
+use Rattle.catalog.specs.Listed.{Listed, are_named_once, index_objects, is_on, is_table, named_among, names_of, objects_of, as_index, table_named, table_object, treeless_names, treeless_objects, trigger_object, view_object, without_table, without_triggers_on}
+use Rattle.catalog.specs.Named.{IsNamed, IsOfListed, ListsOthers, goes_with, less_table, without}
 use Rattle.catalog.specs.declared.tables.Index.{Index as ListedIndex}
 use Rattle.catalog.specs.declared.tables.Table.{Table}
+use Rattle.catalog.specs.declared.tables.Trigger.{Trigger}
 use Rattle.catalog.specs.declared.tables.View.{View}
 use Rattle.catalog.proofs.NamedDatabases.{AreFolded, folded_twice, in_order, not_below, rising}
 use Rattle.catalog.proofs.OtherRows.{both_true, first_true, rest_true}
@@ -152,15 +153,7 @@ folded_still p (e ∷ es) h = by_test (p e) (folded_still p es h.1)
     by_test true rest = (h.0, rest)
     by_test false rest = rest
 
-pub only_still : (p : Name × Object → Bool) (es : Database) → has_no_trigger es ≡ true → has_no_trigger (filter p es) ≡ true
-only_still p [] h = refl
-only_still p (e ∷ es) h = by_test (p e) (only_still p es (rest_true _ (has_no_trigger es) h))
-  where
-    by_test : (b : Bool) → has_no_trigger (filter p es) ≡ true → has_no_trigger (cond b (e ∷ filter p es) (filter p es)) ≡ true
-    by_test true rest = both_true _ (has_no_trigger (filter p es)) (first_true _ (has_no_trigger es) h) rest
-    by_test false rest = rest
-
--- ---- the law
+-- ---- names
 
 -- the names of listed objects are those of the tables and of their indexes
 pub index_names : (tables : List Table) → map (λ (o : Name × Object). o.0) (flat_map index_objects tables) ≡ flat_map (λ (t : Table). map (λ (i : ListedIndex). i.name) t.indexes) tables
@@ -182,26 +175,53 @@ pub view_names : (views : List View) (os : List (Name × Object)) (names : List 
 view_names [] os names e = e
 view_names (v ∷ vs) os names e = ap (λ ns. v.definition.name ∷ ns) (view_names vs os names e)
 
+pub trigger_names : (triggers : List Trigger) (os : List (Name × Object)) (names : List Name) → map (λ (o : Name × Object). o.0) os ≡ names
+    → map (λ (o : Name × Object). o.0) (map trigger_object triggers ++ os) ≡ map (λ (t : Trigger). t.definition.name) triggers ++ names
+trigger_names [] os names e = e
+trigger_names (t ∷ ts) os names e = ap (λ ns. t.definition.name ∷ ns) (trigger_names ts os names e)
+
+-- of views and triggers, and of what stands behind them
+pub treeless_then : (l : Listed) (os : List (Name × Object)) (names : List Name) → map (λ (o : Name × Object). o.0) os ≡ names
+    → map (λ (o : Name × Object). o.0) (treeless_objects l ++ os) ≡ treeless_names l ++ names
+treeless_then l os names e =
+    ap (map (λ (o : Name × Object). o.0)) (append_assoc (map view_object l.views) (map trigger_object l.triggers) os)
+    ∙ (view_names l.views (map trigger_object l.triggers ++ os) _ (trigger_names l.triggers os names e)
+    ∙ sym (append_assoc (map (λ (v : View). v.definition.name) l.views) (map (λ (t : Trigger). t.definition.name) l.triggers) names))
+
 pub names_are : (rows_at : ℕ → List (ℤ × List Value)) (l : Listed) → map (λ (o : Name × Object). o.0) (objects_of rows_at l) ≡ names_of l
-names_are rows_at l = object_names rows_at l.tables (map view_object l.views ++ flat_map index_objects l.tables) _ (view_names l.views (flat_map index_objects l.tables) _ (index_names l.tables))
+names_are rows_at l = object_names rows_at l.tables (treeless_objects l ++ flat_map index_objects l.tables) _ (treeless_then l (flat_map index_objects l.tables) _ (index_names l.tables))
+
+-- ---- no name among others
+
+pub neither : (a b : Bool) → (a || b) ≡ false → (a ≡ false) × (b ≡ false)
+neither true b h = absurd (false≢true (sym h))
+neither false b h = (refl, h)
+
+pub none_after : (same : Name → Bool) (xs ys : List Name) → list_any same (xs ++ ys) ≡ false → list_any same ys ≡ false
+none_after same [] ys h = h
+none_after same (x ∷ xs) ys h = none_after same xs ys (neither (same x) (list_any same (xs ++ ys)) h).1
+
+pub none_first : (same : Name → Bool) (xs ys : List Name) → list_any same (xs ++ ys) ≡ false → list_any same xs ≡ false
+none_first same [] ys h = refl
+none_first same (x ∷ xs) ys h = let both = neither (same x) (list_any same (xs ++ ys)) h in ap (λ b. b || list_any same xs) both.0 ∙ none_first same xs ys both.1
 
 -- ---- those that go
 
-abbrev stays : Name → Name × Object → Bool
-stays name o = not (goes_with_table name o)
+abbrev pub stays : Name → Name × Object → Bool
+stays name o = not (goes_with name o)
 
 -- the test of a name alone, in either case of its letters
+pub turned : (a b : Name) → is_same_name a b ≡ is_same_name b a
+turned a b = by_test (is_same_name a b) refl
+  where
+    by_test : (c : Bool) → is_same_name a b ≡ c → c ≡ is_same_name b a
+    by_test true e = sym (tells (folded b) (folded a) (sym (same (folded a) (folded b) e)))
+    by_test false e = sym (other_name a b e)
+
 tables_left : (rows_at : ℕ → List (ℤ × List Value)) (name : Name) (tables : List Table) → filter (stays name) (map (table_object rows_at) tables) ≡ map (table_object rows_at) (without_table name tables)
 tables_left rows_at name [] = refl
-tables_left rows_at name (t ∷ ts) = by_test (tables_left rows_at name ts) (is_same_name name t.name) (is_table name t) (turned t.name)
+tables_left rows_at name (t ∷ ts) = by_test (tables_left rows_at name ts) (is_same_name name t.name) (is_table name t) (turned name t.name)
   where
-    turned : (n : Name) → is_same_name name n ≡ is_same_name n name
-    turned n = by_case (is_same_name name n) refl
-      where
-        by_case : (b : Bool) → is_same_name name n ≡ b → b ≡ is_same_name n name
-        by_case true e = sym (tells (folded n) (folded name) (sym (same (folded name) (folded n) e)))
-        by_case false e = sym (other_name name n e)
-
     by_test : filter (stays name) (map (table_object rows_at) ts) ≡ map (table_object rows_at) (without_table name ts) → (b c : Bool) → b ≡ c
         → cond (not b) (table_object rows_at t ∷ filter (stays name) (map (table_object rows_at) ts)) (filter (stays name) (map (table_object rows_at) ts))
         ≡ map (table_object rows_at) (cond (not c) (t ∷ without_table name ts) (without_table name ts))
@@ -235,7 +255,7 @@ all_stay name t (i ∷ is) named none =
     (no_one (is_same_name name (folded t.name)) (λ h. false≢true (sym named ∙ tells (folded t.name) (folded name) (sym (same (folded name) (folded (folded t.name)) h ∙ folded_twice t.name)))))
     ∙ ap (λ os. index_object t i ∷ os) (all_stay name t is named none.1))
 
-indexes_left : (name : Name) (tables : List Table) → AllByRecursion (λ (t : Table). NoneNamed name t.indexes) tables
+pub indexes_left : (name : Name) (tables : List Table) → AllByRecursion (λ (t : Table). NoneNamed name t.indexes) tables
     → filter (stays name) (flat_map index_objects tables) ≡ flat_map index_objects (without_table name tables)
 indexes_left name [] none = refl
 indexes_left name (t ∷ ts) none =
@@ -247,41 +267,58 @@ indexes_left name (t ∷ ts) none =
     by_test true e = ap (λ os. os ++ flat_map index_objects (without_table name ts)) (all_go name t t.indexes e)
     by_test false e = ap (λ os. os ++ flat_map index_objects (without_table name ts)) (all_stay name t t.indexes e none.0)
 
+-- none of these goes
+pub none_go : (name : Name) (os : List (Name × Object)) → list_any (goes_with name) os ≡ false → filter (stays name) os ≡ os
+none_go name [] none = refl
+none_go name (o ∷ os) none =
+    let both = neither (goes_with name o) (list_any (goes_with name) os) none in
+    ap (λ b. cond (not b) (o ∷ filter (stays name) os) (filter (stays name) os)) both.0 ∙ ap (λ xs. o ∷ xs) (none_go name os both.1)
+
 -- no view has the name
-views_left : (name : Name) (views : List View) → list_any (is_same_name name) (map (λ (v : View). v.definition.name) views) ≡ false → filter (stays name) (map view_object views) ≡ map view_object views
-views_left name [] none = refl
-views_left name (v ∷ vs) none =
-    let parts = both_false (is_same_name name v.definition.name) (list_any (is_same_name name) (map (λ (v : View). v.definition.name) vs)) none in
+pub views_stay : (name : Name) (views : List View) → list_any (is_same_name name) (map (λ (v : View). v.definition.name) views) ≡ false → filter (stays name) (map view_object views) ≡ map view_object views
+views_stay name [] none = refl
+views_stay name (v ∷ vs) none =
+    let parts = neither (is_same_name name v.definition.name) (list_any (is_same_name name) (map (λ (v : View). v.definition.name) vs)) none in
     ap (λ b. cond (not b) (view_object v ∷ filter (stays name) (map view_object vs)) (filter (stays name) (map view_object vs))) parts.0
-    ∙ ap (λ os. view_object v ∷ os) (views_left name vs parts.1)
+    ∙ ap (λ os. view_object v ∷ os) (views_stay name vs parts.1)
+
+-- no trigger has the name: those of its table or view go
+pub triggers_left : (name : Name) (triggers : List Trigger) → list_any (is_same_name name) (map (λ (t : Trigger). t.definition.name) triggers) ≡ false
+    → filter (stays name) (map trigger_object triggers) ≡ map trigger_object (without_triggers_on name triggers)
+triggers_left name [] none = refl
+triggers_left name (t ∷ ts) none =
+    let parts = neither (is_same_name name t.definition.name) (list_any (is_same_name name) (map (λ (t : Trigger). t.definition.name) ts)) none in
+    ap (λ b. cond (not (b || is_on name t)) (trigger_object t ∷ filter (stays name) (map trigger_object ts)) (filter (stays name) (map trigger_object ts))) parts.0
+    ∙ by_test (triggers_left name ts parts.1) (is_on name t)
   where
-    both_false : (a b : Bool) → (a || b) ≡ false → (a ≡ false) × (b ≡ false)
-    both_false true b h = absurd (false≢true (sym h))
-    both_false false b h = (refl, h)
+    by_test : filter (stays name) (map trigger_object ts) ≡ map trigger_object (without_triggers_on name ts) → (b : Bool)
+        → cond (not b) (trigger_object t ∷ filter (stays name) (map trigger_object ts)) (filter (stays name) (map trigger_object ts))
+        ≡ map trigger_object (cond (not b) (t ∷ without_triggers_on name ts) (without_triggers_on name ts))
+    by_test rest true = rest
+    by_test rest false = ap (λ os. trigger_object t ∷ os) rest
+
+-- neither a view nor a trigger has the name
+pub treeless_left : (name : Name) (l : Listed) → list_any (is_same_name name) (treeless_names l) ≡ false
+    → filter (stays name) (treeless_objects l) ≡ map view_object l.views ++ map trigger_object (without_triggers_on name l.triggers)
+treeless_left name l none =
+    let views : List Name = map (λ (v : View). v.definition.name) l.views in
+    let triggers : List Name = map (λ (t : Trigger). t.definition.name) l.triggers in
+    filter-append (stays name) (map view_object l.views) (map trigger_object l.triggers)
+    ∙ (ap (λ os. os ++ filter (stays name) (map trigger_object l.triggers)) (views_stay name l.views (none_first (is_same_name name) views triggers none))
+    ∙ ap (λ os. map view_object l.views ++ os) (triggers_left name l.triggers (none_after (is_same_name name) views triggers none)))
 
 objects_left : (rows_at : ℕ → List (ℤ × List Value)) (name : Name) (l : Listed) → AllByRecursion (λ (t : Table). NoneNamed name t.indexes) l.tables
-    → list_any (is_same_name name) (map (λ (v : View). v.definition.name) l.views) ≡ false
-    → filter (stays name) (objects_of rows_at l) ≡ objects_of rows_at (record l { tables = without_table name l.tables })
-objects_left rows_at name l none no_view =
-    filter-append (stays name) (map (table_object rows_at) l.tables) (map view_object l.views ++ flat_map index_objects l.tables)
-    ∙ (ap (λ os. os ++ filter (stays name) (map view_object l.views ++ flat_map index_objects l.tables)) (tables_left rows_at name l.tables)
-    ∙ (ap (λ os. map (table_object rows_at) (without_table name l.tables) ++ os) (filter-append (stays name) (map view_object l.views) (flat_map index_objects l.tables))
-    ∙ (ap (λ os. map (table_object rows_at) (without_table name l.tables) ++ (os ++ filter (stays name) (flat_map index_objects l.tables))) (views_left name l.views no_view)
-    ∙ ap (λ os. map (table_object rows_at) (without_table name l.tables) ++ (map view_object l.views ++ os)) (indexes_left name l.tables none))))
+    → list_any (is_same_name name) (treeless_names l) ≡ false → filter (stays name) (objects_of rows_at l) ≡ objects_of rows_at (less_table name l)
+objects_left rows_at name l none no_treeless =
+    let front : List (Name × Object) = map (table_object rows_at) l.tables in
+    let back : List (Name × Object) = flat_map index_objects l.tables in
+    filter-append (stays name) front (treeless_objects l ++ back)
+    ∙ (ap (λ os. os ++ filter (stays name) (treeless_objects l ++ back)) (tables_left rows_at name l.tables)
+    ∙ (ap (λ os. map (table_object rows_at) (without_table name l.tables) ++ os) (filter-append (stays name) (treeless_objects l) back)
+    ∙ (ap (λ os. map (table_object rows_at) (without_table name l.tables) ++ (os ++ filter (stays name) back)) (treeless_left name l no_treeless)
+    ∙ ap (λ os. map (table_object rows_at) (without_table name l.tables) ++ ((map view_object l.views ++ map trigger_object (without_triggers_on name l.triggers)) ++ os)) (indexes_left name l.tables none))))
 
 -- ---- names that stand once
-
-pub neither : (a b : Bool) → (a || b) ≡ false → (a ≡ false) × (b ≡ false)
-neither true b h = absurd (false≢true (sym h))
-neither false b h = (refl, h)
-
-none_after : (same : Name → Bool) (xs ys : List Name) → list_any same (xs ++ ys) ≡ false → list_any same ys ≡ false
-none_after same [] ys h = h
-none_after same (x ∷ xs) ys h = none_after same xs ys (neither (same x) (list_any same (xs ++ ys)) h).1
-
-none_first : (same : Name → Bool) (xs ys : List Name) → list_any same (xs ++ ys) ≡ false → list_any same xs ≡ false
-none_first same [] ys h = refl
-none_first same (x ∷ xs) ys h = let both = neither (same x) (list_any same (xs ++ ys)) h in ap (λ b. b || list_any same xs) both.0 ∙ none_first same xs ys both.1
 
 -- a table's name is none of those behind the tables
 own_name : (name : Name) (tables : List Table) (others : List Name) (t : Table) → table_named name tables ≡ Some t → any_twice is_same_name (map (λ (t : Table). t.name) tables ++ others) ≡ false
@@ -307,7 +344,7 @@ none_of a name (i ∷ is) same_as h =
       none_of a name is same_as both.1,
     )
 
-none_among : (a name : Name) (tables : List Table) → is_same_name a name ≡ true → list_any (is_same_name a) (flat_map (λ (t : Table). map (λ (i : ListedIndex). i.name) t.indexes) tables) ≡ false
+pub none_among : (a name : Name) (tables : List Table) → is_same_name a name ≡ true → list_any (is_same_name a) (flat_map (λ (t : Table). map (λ (i : ListedIndex). i.name) t.indexes) tables) ≡ false
     → AllByRecursion (λ (t : Table). NoneNamed name t.indexes) tables
 none_among a name [] same_as h = tt
 none_among a name (t ∷ ts) same_as h =
@@ -323,19 +360,16 @@ is_no false h = refl
 none_for : (a name : Name) (names : List Name) → is_same_name a name ≡ true → list_any (is_same_name a) names ≡ false → list_any (is_same_name name) names ≡ false
 none_for a name names same_as h = subst (λ (k : Name). list_any (λ (n : Name). bytes_eq k (folded n)) names ≡ false) (same (folded a) (folded name) same_as) h
 
-abbrev view_names_of : Listed → List Name
-view_names_of l = map (λ (v : View). v.definition.name) l.views
-
--- no index and no view has the name of a table
+-- no index, no view and no trigger has the name of a table
 pub no_index_named : (name : Name) (l : Listed) (t : Table) → are_named_once l ≡ true → table_named name l.tables ≡ Some t → AllByRecursion (λ (t : Table). NoneNamed name t.indexes) l.tables
 no_index_named name l t once found =
     let own = own_name name l.tables _ t found (is_no (any_twice is_same_name (names_of l)) once) in
-    none_among t.name name l.tables own.0 (none_after (is_same_name t.name) (view_names_of l) _ own.1)
+    none_among t.name name l.tables own.0 (none_after (is_same_name t.name) (treeless_names l) _ own.1)
 
-pub no_view_named : (name : Name) (l : Listed) (t : Table) → are_named_once l ≡ true → table_named name l.tables ≡ Some t → list_any (is_same_name name) (map (λ (v : View). v.definition.name) l.views) ≡ false
-no_view_named name l t once found =
+pub no_treeless_named : (name : Name) (l : Listed) (t : Table) → are_named_once l ≡ true → table_named name l.tables ≡ Some t → list_any (is_same_name name) (treeless_names l) ≡ false
+no_treeless_named name l t once found =
     let own = own_name name l.tables _ t found (is_no (any_twice is_same_name (names_of l)) once) in
-    none_for t.name name (view_names_of l) own.0 (none_first (is_same_name t.name) (view_names_of l) _ own.1)
+    none_for t.name name (treeless_names l) own.0 (none_first (is_same_name t.name) (treeless_names l) _ own.1)
 
 none_still : (p : Name × Object → Bool) (same : Name → Bool) (os : List (Name × Object)) → list_any same (map (λ o. o.0) os) ≡ false → list_any same (map (λ o. o.0) (filter p os)) ≡ false
 none_still p same [] h = refl
@@ -371,7 +405,7 @@ same_fate : (name n m : Name) (o : Object) → folded n ≡ folded m → stays n
 same_fate name n m (ATable t) e = ap (λ k. not (bytes_eq (folded name) k)) e
 same_fate name n m (AnIndex i) e = ap (λ k. not (bytes_eq (folded name) k || is_same_name name i.table)) e
 same_fate name n m (AView v) e = ap (λ k. not (bytes_eq (folded name) k)) e
-same_fate name n m (ATrigger d) e = ap (λ k. not (bytes_eq (folded name) k)) e
+same_fate name n m (ATrigger d) e = ap (λ k. not (bytes_eq (folded name) k || is_same_name name d.target)) e
 
 both_kept : (name : Name) (found listed : Option (Name × Object)) → option_map (λ o. o.1) found ≡ option_map (λ o. o.1) listed
     → ((o x : Name × Object) → found ≡ Some o → listed ≡ Some x → folded o.0 ≡ folded x.0)
@@ -388,31 +422,52 @@ both_kept name (Some o) (Some x) e names =
     by_test true e is = ap (λ b. option_map (λ (y : Name × Object). y.1) (cond b (Some o) None)) e ∙ ap (λ y. Some y) is
     by_test false e is = ap (λ b. option_map (λ (y : Name × Object). y.1) (cond b (Some o) None)) e
 
-pub lists_others : ListsOthers
-lists_others rows_at l db name t is found = record {
-  lists = λ q.
+-- ---- the law
+
+-- the objects of a database, each under its name
+pub record IsOf (objects : List (Name × Object)) (db : Database) : Type 0 where
+  pub finds : (q : Name) → object db q ≡ named_among q objects
+  pub named : IsNamed db
+  pub once : any_twice is_same_name (map (λ o. o.0) objects) ≡ false
+
+pub as_objects : (rows_at : ℕ → List (ℤ × List Value)) (l : Listed) (db : Database) → IsOfListed rows_at l db → IsOf (objects_of rows_at l) db
+as_objects rows_at l db is = record {
+  finds = is.lists;
+  named = is.named;
+  once = ap (any_twice is_same_name) (names_are rows_at l) ∙ is_no (any_twice is_same_name (names_of l)) is.once;
+}
+
+pub as_listed : (rows_at : ℕ → List (ℤ × List Value)) (l : Listed) (db : Database) (objects : List (Name × Object)) → objects ≡ objects_of rows_at l → IsOf objects db → IsOfListed rows_at l db
+as_listed rows_at l db objects e is = record {
+  lists = λ q. is.finds q ∙ ap (named_among q) e;
+  named = is.named;
+  once = ap not (ap (any_twice is_same_name) (sym (names_are rows_at l) ∙ ap (map (λ (o : Name × Object). o.0)) (sym e)) ∙ is.once);
+}
+
+-- without what goes with a name
+pub less : (name : Name) (objects : List (Name × Object)) (db : Database) → IsOf objects db → IsOf (filter (stays name) objects) (without name db)
+less name objects db is = record {
+  finds = λ q.
       let entry = entry_at (folded q) db in
-      let listed = list.find (has_name q) (objects_of rows_at l) in
-      found_entry (folded q) (without_table_object name db)
+      let listed = list.find (has_name q) objects in
+      found_entry (folded q) (without name db)
       ∙ (ap (option_map (λ (o : Name × Object). o.1)) (found_kept (stays name) (λ (e : Name × Object). eq_by_cmp name_order (folded q) e.0) db (keyed_once (folded q) db sorted))
-      ∙ (both_kept name entry listed (sym (found_entry (folded q) db) ∙ is.lists q)
+      ∙ (both_kept name entry listed (sym (found_entry (folded q) db) ∙ is.finds q)
       (λ o x at there. (ap folded (sym (tells_apart exact_bytes (folded q) o.0 (found_holds (λ (e : Name × Object). eq_by_cmp name_order (folded q) e.0) db o at)))
-      ∙ (folded_twice q ∙ sym (same (folded x.0) (folded q) (found_holds (has_name q) (objects_of rows_at l) x there)))))
-      ∙ (ap (option_map (λ (o : Name × Object). o.1)) (sym (found_kept (stays name) (has_name q) (objects_of rows_at l) (once_named q (objects_of rows_at l) once)))
-      ∙ ap (named_among q) left)));
-  quiet = only_still (stays name) db is.quiet;
+      ∙ (folded_twice q ∙ sym (same (folded x.0) (folded q) (found_holds (has_name q) objects x there)))))
+      ∙ ap (option_map (λ (o : Name × Object). o.1)) (sym (found_kept (stays name) (has_name q) objects (once_named q objects is.once)))));
   named = record {
-    rising = rising (without_table_object name db) (sorted_still (stays name) db sorted);
+    rising = rising (without name db) (sorted_still (stays name) db sorted);
     each_folded = folded_still (stays name) db is.named.each_folded;
   };
-  once = ap not (ap (any_twice is_same_name) (sym (names_are rows_at (record l { tables = without_table name l.tables })) ∙ ap (map (λ (o : Name × Object). o.0)) (sym left)) ∙ once_still (stays name) (objects_of rows_at l) once);
+  once = once_still (stays name) objects is.once;
 }
   where
     sorted : is_sorted name_order db ≡ true
     sorted = in_order db is.named.rising
 
-    once : any_twice is_same_name (map (λ (o : Name × Object). o.0) (objects_of rows_at l)) ≡ false
-    once = ap (any_twice is_same_name) (names_are rows_at l) ∙ is_no (any_twice is_same_name (names_of l)) is.once
-
-    left : filter (stays name) (objects_of rows_at l) ≡ objects_of rows_at (record l { tables = without_table name l.tables })
-    left = objects_left rows_at name l (no_index_named name l t is.once found) (no_view_named name l t is.once found)
+pub lists_others : ListsOthers
+lists_others rows_at l db name t is found =
+    as_listed rows_at (less_table name l) (without name db) (filter (stays name) (objects_of rows_at l))
+    (objects_left rows_at name l (no_index_named name l t is.once found) (no_treeless_named name l t is.once found))
+    (less name (objects_of rows_at l) db (as_objects rows_at l db is))

@@ -1,24 +1,29 @@
--- What the names of tables, of views and of indexes find.
-use Rattle.std.proofs.Common.{◌≡◌, inl, inr, refl, sym, ap, subst, ◌∙◌, ℕ, ℤ, Bool, true, false, List, [], ◌∷◌, ◌++◌, map, Option, Some, None, cond}
+-- What the names of tables, of views, of triggers and of indexes find.
+use Rattle.std.proofs.Common.{◌≡◌, inl, inr, refl, sym, ap, subst, ◌∙◌, ℕ, ℤ, Bool, true, false, List, [], ◌∷◌, ◌++◌, append_assoc, map, Option, Some, None, cond}
 use Rattle.std.specs.Prelude.{flat_map, is_some, option_map, MatchOption, ◌||◌}
 use Rattle.std.specs.List as list
 use Rattle.std.specs.List.{list_any}
 use Rattle.sqlval.specs.Names.{is_same_name}
 use Rattle.sqlval.specs.declared.value.Value.{Value}
-use Rattle.catalog.specs.Database.{Name, Object, ATable, AnIndex, AView, object}
-use Rattle.catalog.specs.Laws.{FindsListed, IsNoSource, IsNoTable, NamesListed}
-use Rattle.catalog.specs.Listed.{Listed, as_view, has_index, has_table_name, index_objects, is_name_of, is_table, is_view, named_among, objects_of, as_index, with_rows, table_named, table_object, view_named, view_object}
+use Rattle.catalog.specs.Database.{Name, Object, ATable, AnIndex, AView, ATrigger, object}
+use Rattle.catalog.specs.Laws.{FindsListed, IsIndexOrNone, IsNoSource, IsNoTable, NamesListed}
+use Rattle.catalog.specs.Listed.{Listed, as_view, has_index, has_table_name, index_objects, is_name_of, is_table, is_trigger, is_view, named_among, objects_of, as_index, with_rows, table_named, table_object, treeless_objects, trigger_named, trigger_object, view_named, view_object}
 use Rattle.catalog.specs.declared.tables.Index.{Index as ListedIndex}
 use Rattle.catalog.specs.declared.tables.Table.{Table}
+use Rattle.catalog.specs.declared.tables.Trigger.{Trigger}
 use Rattle.catalog.specs.declared.tables.View.{View}
 
 -- what a name finds among the indexes of tables
 abbrev pub index_found : Name → List Table → Option Object
 index_found name tables = named_among name (flat_map index_objects tables)
 
--- what a name finds behind the tables: among the views, or else among the indexes
+-- what a name finds behind the views: among the triggers, or else among the indexes
+abbrev pub behind_views : Name → Listed → Option Object
+behind_views name l = named_among name (map trigger_object l.triggers ++ flat_map index_objects l.tables)
+
+-- what a name finds behind the tables: among the views, or else behind them
 abbrev pub behind_found : Name → Listed → Option Object
-behind_found name l = named_among name (map view_object l.views ++ flat_map index_objects l.tables)
+behind_found name l = named_among name (treeless_objects l ++ flat_map index_objects l.tables)
 
 -- a table that was found as an object, or else what is found behind the tables
 abbrev pub as_object : (ℕ → List (ℤ × List Value)) → Option Object → Option Table → Option Object
@@ -44,7 +49,7 @@ found_first rows_at name (t ∷ ts) os =
 
 pub listed_as : (rows_at : ℕ → List (ℤ × List Value)) (name : Name) (l : Listed)
     → named_among name (objects_of rows_at l) ≡ as_object rows_at (behind_found name l) (table_named name l.tables)
-listed_as rows_at name l = found_first rows_at name l.tables (map view_object l.views ++ flat_map index_objects l.tables)
+listed_as rows_at name l = found_first rows_at name l.tables (treeless_objects l ++ flat_map index_objects l.tables)
 
 -- a view that was found as an object, or else what is found behind the views
 abbrev pub as_seen : Option Object → Option View → Option Object
@@ -61,30 +66,60 @@ views_first name (v ∷ vs) os = one_more name (view_object v) (map view_object 
     by_test rest true = refl
     by_test rest false = rest
 
+pub seen_first : (name : Name) (l : Listed) → behind_found name l ≡ as_seen (behind_views name l) (view_named name l.views)
+seen_first name l =
+    ap (named_among name) (append_assoc (map view_object l.views) (map trigger_object l.triggers) (flat_map index_objects l.tables))
+    ∙ views_first name l.views (map trigger_object l.triggers ++ flat_map index_objects l.tables)
+
+-- a trigger that was found as an object, or else what is found behind the triggers
+abbrev pub as_set_off : Option Object → Option Trigger → Option Object
+as_set_off behind None = behind
+as_set_off behind (Some t) = Some (ATrigger t.definition)
+
+-- objects are found as triggers first, and then behind them
+pub triggers_first : (name : Name) (triggers : List Trigger) (os : List (Name × Object))
+    → named_among name (map trigger_object triggers ++ os) ≡ as_set_off (named_among name os) (trigger_named name triggers)
+triggers_first name [] os = refl
+triggers_first name (t ∷ ts) os = one_more name (trigger_object t) (map trigger_object ts ++ os) (is_trigger name t) refl ∙ by_test (triggers_first name ts os) (is_trigger name t)
+  where
+    by_test : named_among name (map trigger_object ts ++ os) ≡ as_set_off (named_among name os) (trigger_named name ts)
+        → (b : Bool) → cond b (Some (ATrigger t.definition)) (named_among name (map trigger_object ts ++ os)) ≡ as_set_off (named_among name os) (cond b (Some t) (trigger_named name ts))
+    by_test rest true = refl
+    by_test rest false = rest
+
 -- where one of two lists has it, or else the other
-index_behind : (name : Name) (t : Table) (is : List ListedIndex) (os : List (Name × Object)) → IsNoSource (named_among name os)
-    → IsNoSource (named_among name (map (λ (i : ListedIndex). (i.name, AnIndex (as_index t i))) is ++ os))
+index_behind : (name : Name) (t : Table) (is : List ListedIndex) (os : List (Name × Object)) → IsIndexOrNone (named_among name os)
+    → IsIndexOrNone (named_among name (map (λ (i : ListedIndex). (i.name, AnIndex (as_index t i))) is ++ os))
 index_behind name t [] os h = h
 index_behind name t (i ∷ is) os h =
-    subst IsNoSource (sym (one_more name (i.name, AnIndex (as_index t i)) (map (λ (i : ListedIndex). (i.name, AnIndex (as_index t i))) is ++ os) (is_same_name i.name name) refl))
+    subst IsIndexOrNone (sym (one_more name (i.name, AnIndex (as_index t i)) (map (λ (i : ListedIndex). (i.name, AnIndex (as_index t i))) is ++ os) (is_same_name i.name name) refl))
     (by_test (index_behind name t is os h) (is_same_name i.name name))
   where
-    by_test : IsNoSource (named_among name (map (λ (i : ListedIndex). (i.name, AnIndex (as_index t i))) is ++ os))
-        → (b : Bool) → IsNoSource (cond b (Some (AnIndex (as_index t i))) (named_among name (map (λ (i : ListedIndex). (i.name, AnIndex (as_index t i))) is ++ os)))
+    by_test : IsIndexOrNone (named_among name (map (λ (i : ListedIndex). (i.name, AnIndex (as_index t i))) is ++ os))
+        → (b : Bool) → IsIndexOrNone (cond b (Some (AnIndex (as_index t i))) (named_among name (map (λ (i : ListedIndex). (i.name, AnIndex (as_index t i))) is ++ os)))
     by_test rest true = inr (as_index t i, refl)
     by_test rest false = rest
 
--- neither a table nor a view stands among the indexes
-pub no_source : (name : Name) (tables : List Table) → IsNoSource (index_found name tables)
-no_source name [] = inl refl
-no_source name (t ∷ ts) = index_behind name t t.indexes (flat_map index_objects ts) (no_source name ts)
+-- nothing else stands among the indexes
+only_indexes : (name : Name) (tables : List Table) → IsIndexOrNone (index_found name tables)
+only_indexes name [] = inl refl
+only_indexes name (t ∷ ts) = index_behind name t t.indexes (flat_map index_objects ts) (only_indexes name ts)
+
+-- neither a table nor a view stands behind the views
+pub no_source : (name : Name) (l : Listed) → IsNoSource l name (behind_views name l)
+no_source name l = by_case (trigger_named name l.triggers) (triggers_first name l.triggers (flat_map index_objects l.tables))
+  where
+    by_case : (found : Option Trigger) → behind_views name l ≡ as_set_off (index_found name l.tables) found
+        → MatchOption found (IsIndexOrNone (behind_views name l)) (λ t. behind_views name l ≡ Some (ATrigger t.definition))
+    by_case None e = subst IsIndexOrNone (sym e) (only_indexes name l.tables)
+    by_case (Some t) e = e
 
 -- no table stands behind the tables
 pub no_table : (name : Name) (l : Listed) → IsNoTable l name (behind_found name l)
-no_table name l = by_case (view_named name l.views) (views_first name l.views (flat_map index_objects l.tables))
+no_table name l = by_case (view_named name l.views) (seen_first name l)
   where
-    by_case : (found : Option View) → behind_found name l ≡ as_seen (index_found name l.tables) found → MatchOption found (IsNoSource (behind_found name l)) (λ v. behind_found name l ≡ Some (AView (as_view v)))
-    by_case None e = subst IsNoSource (sym e) (no_source name l.tables)
+    by_case : (found : Option View) → behind_found name l ≡ as_seen (behind_views name l) found → MatchOption found (IsNoSource l name (behind_found name l)) (λ v. behind_found name l ≡ Some (AView (as_view v)))
+    by_case None e = subst (IsNoSource l name) (sym e) (no_source name l)
     by_case (Some v) e = e
 
 pub finds_listed : FindsListed
@@ -153,19 +188,40 @@ seen_or_behind : (behind : Option Object) (found : Option View) → is_some (as_
 seen_or_behind behind None = refl
 seen_or_behind behind (Some v) = refl
 
-behind_any : (name : Name) (l : Listed) → is_some (behind_found name l) ≡ (list_any (is_view name) l.views || list_any (has_index name) l.tables)
-behind_any name l =
-    ap is_some (views_first name l.views (flat_map index_objects l.tables))
-    ∙ (seen_or_behind (index_found name l.tables) (view_named name l.views)
-    ∙ (ap (λ b. b || is_some (index_found name l.tables)) (view_any name l.views)
-    ∙ ap (λ b. list_any (is_view name) l.views || b) (indexes_any name l.tables)))
+trigger_any : (name : Name) (triggers : List Trigger) → is_some (trigger_named name triggers) ≡ list_any (is_trigger name) triggers
+trigger_any name [] = refl
+trigger_any name (t ∷ ts) = by_test (trigger_any name ts) (is_trigger name t)
+  where
+    by_test : is_some (trigger_named name ts) ≡ list_any (is_trigger name) ts → (b : Bool) → is_some (cond b (Some t) (trigger_named name ts)) ≡ (b || list_any (is_trigger name) ts)
+    by_test rest true = refl
+    by_test rest false = rest
 
-turned : (a b c : Bool) → (a || (b || c)) ≡ ((a || c) || b)
-turned true b c = refl
-turned false true true = refl
-turned false true false = refl
-turned false false true = refl
-turned false false false = refl
+set_off_or_behind : (behind : Option Object) (found : Option Trigger) → is_some (as_set_off behind found) ≡ (is_some found || is_some behind)
+set_off_or_behind behind None = refl
+set_off_or_behind behind (Some t) = refl
+
+behind_views_any : (name : Name) (l : Listed) → is_some (behind_views name l) ≡ (list_any (is_trigger name) l.triggers || list_any (has_index name) l.tables)
+behind_views_any name l =
+    ap is_some (triggers_first name l.triggers (flat_map index_objects l.tables))
+    ∙ (set_off_or_behind (index_found name l.tables) (trigger_named name l.triggers)
+    ∙ (ap (λ b. b || is_some (index_found name l.tables)) (trigger_any name l.triggers)
+    ∙ ap (λ b. list_any (is_trigger name) l.triggers || b) (indexes_any name l.tables)))
+
+behind_any : (name : Name) (l : Listed) → is_some (behind_found name l) ≡ (list_any (is_view name) l.views || (list_any (is_trigger name) l.triggers || list_any (has_index name) l.tables))
+behind_any name l =
+    ap is_some (seen_first name l)
+    ∙ (seen_or_behind (behind_views name l) (view_named name l.views)
+    ∙ (ap (λ b. b || is_some (behind_views name l)) (view_any name l.views)
+    ∙ ap (λ b. list_any (is_view name) l.views || b) (behind_views_any name l)))
+
+turned : (a b c d : Bool) → (a || (b || (c || d))) ≡ ((a || d) || (b || c))
+turned true b c d = refl
+turned false true c true = refl
+turned false true c false = refl
+turned false false true true = refl
+turned false false true false = refl
+turned false false false true = refl
+turned false false false false = refl
 
 pub names_found : (rows_at : ℕ → List (ℤ × List Value)) (name : Name) (l : Listed) → is_some (named_among name (objects_of rows_at l)) ≡ is_name_of l name
 names_found rows_at name l =
@@ -173,8 +229,8 @@ names_found rows_at name l =
     ∙ (found_or_behind rows_at (behind_found name l) (table_named name l.tables)
     ∙ (ap (λ b. b || is_some (behind_found name l)) (table_any name l.tables)
     ∙ (ap (λ b. list_any (is_table name) l.tables || b) (behind_any name l)
-    ∙ (turned (list_any (is_table name) l.tables) (list_any (is_view name) l.views) (list_any (has_index name) l.tables)
-    ∙ ap (λ b. b || list_any (is_view name) l.views) (sym (any_either name l.tables))))))
+    ∙ (turned (list_any (is_table name) l.tables) (list_any (is_view name) l.views) (list_any (is_trigger name) l.triggers) (list_any (has_index name) l.tables)
+    ∙ ap (λ b. b || (list_any (is_view name) l.views || list_any (is_trigger name) l.triggers)) (sym (any_either name l.tables))))))
 
 pub names_listed : NamesListed
 names_listed rows_at l db name lists = ap is_some (lists name) ∙ names_found rows_at name l

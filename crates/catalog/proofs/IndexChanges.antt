@@ -5,27 +5,24 @@ use Rattle.std.proofs.lemmas.Cmp.{nat_list_cmp_total}
 use Rattle.std.proofs.lemmas.Grind.{flat_map-append}
 use Rattle.std.proofs.lemmas.List.{map-append}
 use Rattle.std.proofs.lemmas.List.Elements.{filter-append}
-use Rattle.std.proofs.lemmas.Map.Lookups.{exact_bytes}
-use Rattle.std.proofs.lemmas.Map.Views.{tells_apart}
-use Rattle.std.specs.FinMap.Entries.{find-put, is_sorted}
+use Rattle.std.specs.FinMap.Entries.{find-put}
 use Rattle.std.specs.List as list
 use Rattle.std.specs.List.{list_any}
-use Rattle.std.specs.Ordering.{eq_by_cmp}
 use Rattle.std.specs.Prelude.{flat_map, is_some, option_map}
 use Rattle.std.specs.Str.{bytes_eq}
 use Rattle.sqlval.specs.Lists.{any_twice}
 use Rattle.sqlval.specs.Names.{folded, is_same_name}
 use Rattle.sqlval.specs.declared.value.Value.{Value}
-use Rattle.catalog.specs.Database.{Name, Object, AnIndex, name_order, object}
-use Rattle.catalog.specs.Listed.{Listed, has_index, index_objects, is_table, named_among, names_of, objects_of, as_index, table_object, view_object, with_replaced}
-use Rattle.catalog.specs.NewIndexes.{ListsNewIndex, ListsOtherIndexes, replacing, with_index, without_index, without_object}
+use Rattle.catalog.specs.Database.{Name, Database, Object, AnIndex, name_order, object, with_object}
+use Rattle.catalog.specs.Listed.{Listed, has_index, index_objects, is_on, is_table, named_among, names_of, objects_of, as_index, table_object, treeless_names, treeless_objects, trigger_object, view_object, with_replaced, without_table, without_triggers_on}
+use Rattle.catalog.specs.Named.{goes_with, without}
+use Rattle.catalog.specs.NewIndexes.{ListsNewIndex, ListsOtherIndexes, replacing, with_index, without_index}
 use Rattle.catalog.specs.declared.tables.Index.{Index as ListedIndex}
 use Rattle.catalog.specs.declared.tables.Table.{Table}
-use Rattle.catalog.specs.declared.tables.View.{View}
-use Rattle.catalog.proofs.Dropped.{entry_at, folded_still, found_entry, found_holds, found_kept, has_name, index_names, is_no, joined, kept, keyed_once, names_are, neither, once_named, once_still, only_still, other_name, same, sorted_still, tells, view_names}
+use Rattle.catalog.specs.declared.tables.Trigger.{Trigger}
+use Rattle.catalog.proofs.Dropped.{IsOf, as_listed, as_objects, found_holds, indexes_left, is_no, joined, less, neither, none_among, none_go, other_name, same, stays, tells, treeless_left, turned}
 use Rattle.catalog.proofs.Found.{names_found}
-use Rattle.catalog.proofs.NamedDatabases.{folded_twice, in_order, keeps_named, rising, same_test}
-use Rattle.catalog.proofs.OtherRows.{no_trigger}
+use Rattle.catalog.proofs.NamedDatabases.{folded_twice, keeps_named, same_test}
 
 -- ---- a table in place of itself
 
@@ -139,17 +136,17 @@ inserted q (y ∷ front) o back fresh = by_test (inserted q front o back) (is_sa
     by_test rest false e fresh = rest fresh
 
 -- the objects that are listed, up to the indexes of one of the tables
-abbrev listed_before : (ℕ → List (ℤ × List Value)) → List View → List Table → Table → List Table → List (Name × Object)
-listed_before rows_at views before t after = map (table_object rows_at) (before ++ t ∷ after) ++ (map view_object views ++ (flat_map index_objects before ++ index_objects t))
+abbrev listed_before : (ℕ → List (ℤ × List Value)) → Listed → List Table → Table → List Table → List (Name × Object)
+listed_before rows_at l before t after = map (table_object rows_at) (before ++ t ∷ after) ++ (treeless_objects l ++ (flat_map index_objects before ++ index_objects t))
 
-abbrev split_in : List View → List Table → Table → List Table → Listed
-split_in views before t after = record { tables = before ++ t ∷ after; views = views }
+abbrev split_in : Listed → List Table → Table → List Table → Listed
+split_in l before t after = record l { tables = before ++ t ∷ after }
 
-objects_split : (rows_at : ℕ → List (ℤ × List Value)) (views : List View) (before : List Table) (t : Table) (after : List Table)
-    → objects_of rows_at (split_in views before t after) ≡ listed_before rows_at views before t after ++ flat_map index_objects after
-objects_split rows_at views before t after =
+objects_split : (rows_at : ℕ → List (ℤ × List Value)) (l : Listed) (before : List Table) (t : Table) (after : List Table)
+    → objects_of rows_at (split_in l before t after) ≡ listed_before rows_at l before t after ++ flat_map index_objects after
+objects_split rows_at l before t after =
     let front : List (Name × Object) = map (table_object rows_at) (before ++ t ∷ after) in
-    let seen : List (Name × Object) = map view_object views in
+    let seen : List (Name × Object) = treeless_objects l in
     ap (λ os. front ++ (seen ++ os)) (flat_map-append index_objects before (t ∷ after) ∙ sym (append_assoc (flat_map index_objects before) (index_objects t) (flat_map index_objects after)))
     ∙ (ap (λ os. front ++ os) (sym (append_assoc seen (flat_map index_objects before ++ index_objects t) (flat_map index_objects after)))
     ∙ sym (append_assoc front (seen ++ (flat_map index_objects before ++ index_objects t)) (flat_map index_objects after)))
@@ -159,35 +156,51 @@ same_tables : (rows_at : ℕ → List (ℤ × List Value)) (before : List Table)
 same_tables rows_at [] t is after = refl
 same_tables rows_at (u ∷ before) t is after = ap (λ os. table_object rows_at u ∷ os) (same_tables rows_at before t is after)
 
-objects_more : (rows_at : ℕ → List (ℤ × List Value)) (views : List View) (before : List Table) (t : Table) (i : ListedIndex) (after : List Table)
-    → objects_of rows_at (split_in views before (with_index i t) after) ≡ listed_before rows_at views before t after ++ (i.name, AnIndex (as_index t i)) ∷ flat_map index_objects after
-objects_more rows_at views before t i after =
+objects_more : (rows_at : ℕ → List (ℤ × List Value)) (l : Listed) (before : List Table) (t : Table) (i : ListedIndex) (after : List Table)
+    → objects_of rows_at (split_in l before (with_index i t) after) ≡ listed_before rows_at l before t after ++ (i.name, AnIndex (as_index t i)) ∷ flat_map index_objects after
+objects_more rows_at l before t i after =
     let new : List (Name × Object) = (i.name, AnIndex (as_index t i)) ∷ [] in
     let front : List (Name × Object) = map (table_object rows_at) (before ++ t ∷ after) in
-    let seen : List (Name × Object) = map view_object views in
+    let seen : List (Name × Object) = treeless_objects l in
     let back : List (Name × Object) = flat_map index_objects after in
-    objects_split rows_at views before (with_index i t) after
+    objects_split rows_at l before (with_index i t) after
     ∙ (ap (λ os. (os ++ (seen ++ (flat_map index_objects before ++ index_objects (with_index i t)))) ++ back) (same_tables rows_at before t (t.indexes ++ i ∷ []) after)
     ∙ (ap (λ os. (front ++ (seen ++ (flat_map index_objects before ++ os))) ++ back) (map-append (λ (j : ListedIndex). (j.name, AnIndex (as_index t j))) t.indexes (i ∷ []))
     ∙ (ap (λ os. (front ++ (seen ++ os)) ++ back) (sym (append_assoc (flat_map index_objects before) (index_objects t) new))
     ∙ (ap (λ os. (front ++ os) ++ back) (sym (append_assoc seen (flat_map index_objects before ++ index_objects t) new))
     ∙ (ap (λ os. os ++ back) (sym (append_assoc front (seen ++ (flat_map index_objects before ++ index_objects t)) new))
-    ∙ append_assoc (listed_before rows_at views before t after) new back)))))
+    ∙ append_assoc (listed_before rows_at l before t after) new back)))))
+
+-- with an object of a new name
+pub more : (front back : List (Name × Object)) (o : Name × Object) (db : Database) → IsOf (front ++ back) db → named_among o.0 (front ++ back) ≡ None → IsOf (front ++ o ∷ back) (with_object db o.0 o.1)
+more front back o db is none = record {
+  finds = λ q.
+      find-put name_order nat_list_cmp_total (folded q) (folded o.0) o.1 db
+      ∙ (ap (λ b. cond b (Some o.1) (object db q)) (same_test (folded q) (folded o.0))
+      ∙ (ap (cond (is_same_name o.0 q) (Some o.1)) (is.finds q) ∙ sym (inserted q front o back (none_at q))));
+  named = keeps_named db o.0 o.1 is.named;
+  once = ap (any_twice is_same_name) (map-append (λ (x : Name × Object). x.0) front (o ∷ back))
+      ∙ once_inserted (map (λ (x : Name × Object). x.0) front) o.0 (map (λ (x : Name × Object). x.0) back)
+      (ap (any_twice is_same_name) (sym (map-append (λ (x : Name × Object). x.0) front back)) ∙ is.once)
+      (ap (list_any (is_same_name o.0)) (sym (map-append (λ (x : Name × Object). x.0) front back)) ∙ own o.0 (front ++ back) none);
+}
+  where
+    none_at : (q : Name) → is_same_name o.0 q ≡ true → named_among q (front ++ back) ≡ None
+    none_at q h = ap (λ (n : Name). option_map (λ (x : Name × Object). x.1) (list.find (λ (x : Name × Object). bytes_eq (folded x.0) n) (front ++ back))) (sym (same (folded o.0) (folded q) h)) ∙ none
+
+-- what is no name of what is listed finds nothing
+pub finds_none : (rows_at : ℕ → List (ℤ × List Value)) (l : Listed) (name : Name) → is_some (named_among name (objects_of rows_at l)) ≡ false → named_among name (objects_of rows_at l) ≡ None
+finds_none rows_at l name = nothing (named_among name (objects_of rows_at l))
+  where
+    nothing : (found : Option Object) → is_some found ≡ false → found ≡ None
+    nothing None h = refl
+    nothing (Some o) h = absurd (false≢true (sym h))
 
 pub lists_new_index : ListsNewIndex
-lists_new_index rows_at l db t i is found fresh = record {
-  lists = λ q.
-      find-put name_order nat_list_cmp_total (folded q) (folded i.name) (AnIndex (as_index t i)) db
-      ∙ (ap (λ b. cond b (Some (AnIndex (as_index t i))) (object db q)) (same_test (folded q) (folded i.name))
-      ∙ (ap (cond (is_same_name i.name q) (Some (AnIndex (as_index t i)))) (is.lists q ∙ ap (named_among q) objects_are)
-      ∙ (sym (inserted q front new back (none_at q)) ∙ ap (named_among q) (sym objects_then))));
-  quiet = no_trigger db i.name (AnIndex (as_index t i)) is.quiet refl;
-  named = keeps_named db i.name (AnIndex (as_index t i)) is.named;
-  once = ap not (ap (any_twice is_same_name) (sym (names_are rows_at (replacing (with_index i t) l)) ∙ (ap (map (λ (o : Name × Object). o.0)) objects_then ∙ map-append (λ (o : Name × Object). o.0) front (new ∷ back)))
-      ∙ once_inserted (map (λ (o : Name × Object). o.0) front) i.name (map (λ (o : Name × Object). o.0) back)
-      (ap (any_twice is_same_name) (sym (map-append (λ (o : Name × Object). o.0) front back) ∙ (ap (map (λ (o : Name × Object). o.0)) (sym objects_are) ∙ names_are rows_at l)) ∙ names_once)
-      (ap (list_any (is_same_name i.name)) (sym (map-append (λ (o : Name × Object). o.0) front back)) ∙ own i.name (front ++ back) none));
-}
+lists_new_index rows_at l db t i is found fresh =
+    as_listed rows_at (replacing (with_index i t) l) (with_object db i.name (AnIndex (as_index t i))) (front ++ new ∷ back) (sym objects_then)
+    (more front back new db (subst (λ os. IsOf os db) objects_are (as_objects rows_at l db is))
+    (ap (named_among i.name) (sym objects_are) ∙ finds_none rows_at l i.name (names_found rows_at i.name l ∙ fresh)))
   where
     names_once : any_twice is_same_name (names_of l) ≡ false
     names_once = is_no (any_twice is_same_name (names_of l)) is.once
@@ -196,7 +209,7 @@ lists_new_index rows_at l db t i is found fresh = record {
     split = split_at (is_table t.name) l.tables t (once_first (table_names l.tables) _ names_once) found
 
     front : List (Name × Object)
-    front = listed_before rows_at l.views split.before t split.after
+    front = listed_before rows_at l split.before t split.after
 
     back : List (Name × Object)
     back = flat_map index_objects split.after
@@ -205,48 +218,29 @@ lists_new_index rows_at l db t i is found fresh = record {
     new = (i.name, AnIndex (as_index t i))
 
     objects_are : objects_of rows_at l ≡ front ++ back
-    objects_are = ap (λ (ts : List Table). objects_of rows_at (record l { tables = ts })) split.parts ∙ objects_split rows_at l.views split.before t split.after
+    objects_are = ap (λ (ts : List Table). objects_of rows_at (record l { tables = ts })) split.parts ∙ objects_split rows_at l split.before t split.after
 
     objects_then : objects_of rows_at (replacing (with_index i t) l) ≡ front ++ new ∷ back
-    objects_then = ap (λ (ts : List Table). objects_of rows_at (record l { tables = ts })) (split.replaced (with_index i t) refl) ∙ objects_more rows_at l.views split.before t i split.after
-
-    nothing : (found : Option Object) → is_some found ≡ false → found ≡ None
-    nothing None h = refl
-    nothing (Some o) h = absurd (false≢true (sym h))
-
-    none : named_among i.name (front ++ back) ≡ None
-    none = ap (named_among i.name) (sym objects_are) ∙ nothing (named_among i.name (objects_of rows_at l)) (names_found rows_at i.name l ∙ fresh)
-
-    none_at : (q : Name) → is_same_name i.name q ≡ true → named_among q (front ++ back) ≡ None
-    none_at q h = ap (λ (n : Name). option_map (λ (x : Name × Object). x.1) (list.find (λ (x : Name × Object). bytes_eq (folded x.0) n) (front ++ back))) (sym (same (folded i.name) (folded q) h)) ∙ none
+    objects_then = ap (λ (ts : List Table). objects_of rows_at (record l { tables = ts })) (split.replaced (with_index i t) refl) ∙ objects_more rows_at l split.before t i split.after
 
 -- ---- an index less
-
-abbrev pub stays : Name → Name × Object → Bool
-stays name o = not (is_same_name name o.0)
-
-pub all_stay : (name : Name) (os : List (Name × Object)) → list_any (is_same_name name) (map (λ (o : Name × Object). o.0) os) ≡ false → filter (stays name) os ≡ os
-all_stay name [] none = refl
-all_stay name (o ∷ os) none =
-    let both = neither (is_same_name name o.0) (list_any (is_same_name name) (map (λ (o : Name × Object). o.0) os)) none in
-    ap (λ b. cond (not b) (o ∷ filter (stays name) os) (filter (stays name) os)) both.0 ∙ ap (λ xs. o ∷ xs) (all_stay name os both.1)
 
 abbrev index_object : Table → ListedIndex → Name × Object
 index_object t i = (i.name, AnIndex (as_index t i))
 
-pub turned : (a b : Name) → is_same_name a b ≡ is_same_name b a
-turned a b = by_test (is_same_name a b) refl
+-- only indexes of the name itself go of a table of another name
+others_stay : (name : Name) (t : Table) (is : List ListedIndex) → is_same_name name t.name ≡ false
+    → filter (stays name) (map (index_object t) is) ≡ map (index_object t) (filter (λ (i : ListedIndex). not (is_same_name i.name name)) is)
+others_stay name t [] apart = refl
+others_stay name t (i ∷ is) apart =
+    ap (λ b. cond (not (is_same_name name i.name || b)) (index_object t i ∷ filter (stays name) (map (index_object t) is)) (filter (stays name) (map (index_object t) is))) apart_folded
+    ∙ by_test (others_stay name t is apart) (is_same_name name i.name) (is_same_name i.name name) (turned name i.name)
   where
-    by_test : (c : Bool) → is_same_name a b ≡ c → c ≡ is_same_name b a
-    by_test true e = sym (tells (folded b) (folded a) (sym (same (folded a) (folded b) e)))
-    by_test false e = sym (other_name a b e)
+    apart_folded : is_same_name name (folded t.name) ≡ false
+    apart_folded = ap (λ n. bytes_eq (folded name) n) (folded_twice t.name) ∙ apart
 
-others_stay : (name : Name) (t : Table) (is : List ListedIndex) → filter (stays name) (map (index_object t) is) ≡ map (index_object t) (filter (λ (i : ListedIndex). not (is_same_name i.name name)) is)
-others_stay name t [] = refl
-others_stay name t (i ∷ is) = by_test (others_stay name t is) (is_same_name name i.name) (is_same_name i.name name) (turned name i.name)
-  where
     by_test : filter (stays name) (map (index_object t) is) ≡ map (index_object t) (filter (λ (i : ListedIndex). not (is_same_name i.name name)) is) → (b c : Bool) → b ≡ c
-        → cond (not b) (index_object t i ∷ filter (stays name) (map (index_object t) is)) (filter (stays name) (map (index_object t) is))
+        → cond (not (b || false)) (index_object t i ∷ filter (stays name) (map (index_object t) is)) (filter (stays name) (map (index_object t) is))
         ≡ map (index_object t) (cond (not c) (i ∷ filter (λ (i : ListedIndex). not (is_same_name i.name name)) is) (filter (λ (i : ListedIndex). not (is_same_name i.name name)) is))
     by_test rest true c e = rest ∙ ap (λ c. map (index_object t) (cond (not c) (i ∷ filter (λ (i : ListedIndex). not (is_same_name i.name name)) is) (filter (λ (i : ListedIndex). not (is_same_name i.name name)) is))) e
     by_test rest false c e =
@@ -296,7 +290,7 @@ pub once_second : (xs ys : List Name) → any_twice is_same_name (xs ++ ys) ≡ 
 once_second [] ys once = once
 once_second (x ∷ xs) ys once = once_second xs ys (neither (list_any (is_same_name x) (xs ++ ys)) (any_twice is_same_name (xs ++ ys)) once).1
 
-abbrev index_names_of : List Table → List Name
+abbrev pub index_names_of : List Table → List Name
 index_names_of tables = flat_map (λ (t : Table). map (λ (i : ListedIndex). i.name) t.indexes) tables
 
 pub some_first : (p : Name → Bool) (xs ys : List Name) → list_any p xs ≡ true → list_any p (xs ++ ys) ≡ true
@@ -307,7 +301,7 @@ some_first p (x ∷ xs) ys some = by_test (some_first p xs ys) (p x) some
     by_test rest true e = refl
     by_test rest false e = rest e
 
-some_second : (p : Name → Bool) (xs ys : List Name) → list_any p ys ≡ true → list_any p (xs ++ ys) ≡ true
+pub some_second : (p : Name → Bool) (xs ys : List Name) → list_any p ys ≡ true → list_any p (xs ++ ys) ≡ true
 some_second p [] ys some = some
 some_second p (x ∷ xs) ys some = by_test (p x) (some_second p xs ys some)
   where
@@ -323,20 +317,48 @@ pub table_object_names : (rows_at : ℕ → List (ℤ × List Value)) (tables : 
 table_object_names rows_at [] = refl
 table_object_names rows_at (t ∷ ts) = ap (λ ns. t.name ∷ ns) (table_object_names rows_at ts)
 
-abbrev pub view_names_in : List View → List Name
-view_names_in views = map (λ (v : View). v.definition.name) views
+-- tables of other names stay
+pub tables_stay : (rows_at : ℕ → List (ℤ × List Value)) (name : Name) (tables : List Table) → list_any (is_same_name name) (table_names tables) ≡ false
+    → filter (stays name) (map (table_object rows_at) tables) ≡ map (table_object rows_at) tables
+tables_stay rows_at name tables none = none_go name (map (table_object rows_at) tables) (go tables none)
+  where
+    go : (tables : List Table) → list_any (is_same_name name) (table_names tables) ≡ false → list_any (goes_with name) (map (table_object rows_at) tables) ≡ false
+    go [] none = refl
+    go (t ∷ ts) none =
+        let both = neither (is_same_name name t.name) (list_any (is_same_name name) (table_names ts)) none in
+        ap (λ b. b || list_any (goes_with name) (map (table_object rows_at) ts)) both.0 ∙ go ts both.1
 
-pub view_object_names : (views : List View) → map (λ (o : Name × Object). o.0) (map view_object views) ≡ view_names_in views
-view_object_names [] = refl
-view_object_names (v ∷ vs) = ap (λ ns. v.definition.name ∷ ns) (view_object_names vs)
+-- tables of other names are not without themselves
+none_without : (name : Name) (tables : List Table) → list_any (is_same_name name) (table_names tables) ≡ false → without_table name tables ≡ tables
+none_without name [] none = refl
+none_without name (t ∷ ts) none =
+    let both = neither (is_same_name name t.name) (list_any (is_same_name name) (table_names ts)) none in
+    ap (λ b. cond (not b) (t ∷ without_table name ts) (without_table name ts)) (other_name name t.name both.0) ∙ ap (λ us. t ∷ us) (none_without name ts both.1)
 
-module _ (rows_at : ℕ → List (ℤ × List Value)) (name : Name) (views : List View) (before : List Table) (t : Table) (after : List Table) (some : has_index name t ≡ true)
-    (once : any_twice is_same_name (names_of (split_in views before t after)) ≡ false) where
+-- indexes of other names, on tables of other names, stay
+pub indexes_stay : (name : Name) (tables : List Table) → list_any (is_same_name name) (table_names tables) ≡ false → list_any (is_same_name name) (index_names_of tables) ≡ false
+    → filter (stays name) (flat_map index_objects tables) ≡ flat_map index_objects tables
+indexes_stay name tables none no_index =
+    indexes_left name tables (none_among name name tables (tells (folded name) (folded name) refl) no_index) ∙ ap (flat_map index_objects) (none_without name tables none)
+
+-- triggers of other tables and views are not without themselves
+pub none_elsewhere : (name : Name) (triggers : List Trigger) → list_any (is_on name) triggers ≡ false → without_triggers_on name triggers ≡ triggers
+none_elsewhere name [] none = refl
+none_elsewhere name (t ∷ ts) none =
+    let both = neither (is_on name t) (list_any (is_on name) ts) none in
+    ap (λ b. cond (not b) (t ∷ without_triggers_on name ts) (without_triggers_on name ts)) both.0 ∙ ap (λ us. t ∷ us) (none_elsewhere name ts both.1)
+
+-- views, and triggers of others, stay
+treeless_stay : (name : Name) (l : Listed) → list_any (is_same_name name) (treeless_names l) ≡ false → list_any (is_on name) l.triggers ≡ false → filter (stays name) (treeless_objects l) ≡ treeless_objects l
+treeless_stay name l none no_on = treeless_left name l none ∙ ap (λ ts. map view_object l.views ++ map trigger_object ts) (none_elsewhere name l.triggers no_on)
+
+module _ (rows_at : ℕ → List (ℤ × List Value)) (name : Name) (l : Listed) (before : List Table) (t : Table) (after : List Table) (some : has_index name t ≡ true) (no_on : list_any (is_on name) l.triggers ≡ false)
+    (once : any_twice is_same_name (names_of (split_in l before t after)) ≡ false) where
   abbrev front : List (Name × Object)
   front = map (table_object rows_at) (before ++ t ∷ after)
 
   abbrev seen : List (Name × Object)
-  seen = map view_object views
+  seen = treeless_objects l
 
   abbrev back : List (Name × Object)
   back = flat_map index_objects after
@@ -347,11 +369,11 @@ module _ (rows_at : ℕ → List (ℤ × List Value)) (name : Name) (views : Lis
   parts : index_names_of (before ++ t ∷ after) ≡ index_names_of before ++ (map (λ (i : ListedIndex). i.name) t.indexes ++ index_names_of after)
   parts = flat_map-append (λ (t : Table). map (λ (i : ListedIndex). i.name) t.indexes) before (t ∷ after)
 
-  behind_once : any_twice is_same_name (view_names_in views ++ index_names_of (before ++ t ∷ after)) ≡ false
-  behind_once = once_second (table_names (before ++ t ∷ after)) (view_names_in views ++ index_names_of (before ++ t ∷ after)) once
+  behind_once : any_twice is_same_name (treeless_names l ++ index_names_of (before ++ t ∷ after)) ≡ false
+  behind_once = once_second (table_names (before ++ t ∷ after)) (treeless_names l ++ index_names_of (before ++ t ∷ after)) once
 
   indexes_once : any_twice is_same_name (index_names_of before ++ (map (λ (i : ListedIndex). i.name) t.indexes ++ index_names_of after)) ≡ false
-  indexes_once = ap (any_twice is_same_name) (sym parts) ∙ once_second (view_names_in views) (index_names_of (before ++ t ∷ after)) behind_once
+  indexes_once = ap (any_twice is_same_name) (sym parts) ∙ once_second (treeless_names l) (index_names_of (before ++ t ∷ after)) behind_once
 
   here : list_any (is_name name) (map (λ (i : ListedIndex). i.name) t.indexes ++ index_names_of after) ≡ true
   here = some_first (is_name name) (map (λ (i : ListedIndex). i.name) t.indexes) (index_names_of after) own_some
@@ -359,79 +381,50 @@ module _ (rows_at : ℕ → List (ℤ × List Value)) (name : Name) (views : Lis
   among_indexes : list_any (is_name name) (index_names_of (before ++ t ∷ after)) ≡ true
   among_indexes = ap (list_any (is_name name)) parts ∙ some_second (is_name name) (index_names_of before) (map (λ (i : ListedIndex). i.name) t.indexes ++ index_names_of after) here
 
-  tables_stay : filter (stays name) front ≡ front
-  tables_stay = all_stay name front (ap (list_any (is_same_name name)) (table_object_names rows_at (before ++ t ∷ after))
-      ∙ none_before name (table_names (before ++ t ∷ after)) (view_names_in views ++ index_names_of (before ++ t ∷ after)) once
-      (some_second (is_name name) (view_names_in views) (index_names_of (before ++ t ∷ after)) among_indexes))
+  no_table : list_any (is_same_name name) (table_names (before ++ t ∷ after)) ≡ false
+  no_table = none_before name (table_names (before ++ t ∷ after)) (treeless_names l ++ index_names_of (before ++ t ∷ after)) once
+      (some_second (is_name name) (treeless_names l) (index_names_of (before ++ t ∷ after)) among_indexes)
+
+  no_tables : (list_any (is_same_name name) (table_names before) ≡ false) × (list_any (is_same_name name) (table_names (t ∷ after)) ≡ false)
+  no_tables = first_part (is_same_name name) (table_names before) (table_names (t ∷ after)) (ap (list_any (is_same_name name)) (sym (map-append (λ (t : Table). t.name) before (t ∷ after))) ∙ no_table)
+
+  apart : (is_same_name name t.name ≡ false) × (list_any (is_same_name name) (table_names after) ≡ false)
+  apart = neither (is_same_name name t.name) (list_any (is_same_name name) (table_names after)) no_tables.1
+
+  all_tables_stay : filter (stays name) front ≡ front
+  all_tables_stay = tables_stay rows_at name (before ++ t ∷ after) no_table
 
   views_stay : filter (stays name) seen ≡ seen
-  views_stay = all_stay name seen (ap (list_any (is_same_name name)) (view_object_names views)
-      ∙ none_before name (view_names_in views) (index_names_of (before ++ t ∷ after)) behind_once among_indexes)
+  views_stay = treeless_stay name l (none_before name (treeless_names l) (index_names_of (before ++ t ∷ after)) behind_once among_indexes) no_on
 
   before_stay : filter (stays name) (flat_map index_objects before) ≡ flat_map index_objects before
-  before_stay = all_stay name (flat_map index_objects before) (ap (list_any (is_same_name name)) (index_names before)
-      ∙ none_before name (index_names_of before) (map (λ (i : ListedIndex). i.name) t.indexes ++ index_names_of after) indexes_once here)
+  before_stay = indexes_stay name before no_tables.0 (none_before name (index_names_of before) (map (λ (i : ListedIndex). i.name) t.indexes ++ index_names_of after) indexes_once here)
 
   after_stay : filter (stays name) back ≡ back
-  after_stay = all_stay name back (ap (list_any (is_same_name name)) (index_names after)
-      ∙ none_behind name (map (λ (i : ListedIndex). i.name) t.indexes) (index_names_of after)
+  after_stay = indexes_stay name after apart.1 (none_behind name (map (λ (i : ListedIndex). i.name) t.indexes) (index_names_of after)
       (once_second (index_names_of before) (map (λ (i : ListedIndex). i.name) t.indexes ++ index_names_of after) indexes_once) own_some)
 
-  objects_less : filter (stays name) (objects_of rows_at (split_in views before t after)) ≡ objects_of rows_at (split_in views before (without_index name t) after)
+  objects_less : filter (stays name) (objects_of rows_at (split_in l before t after)) ≡ objects_of rows_at (split_in l before (without_index name t) after)
   objects_less =
-      ap (filter (stays name)) (objects_split rows_at views before t after)
-      ∙ (filter-append (stays name) (listed_before rows_at views before t after) back
-      ∙ (ap (λ os. filter (stays name) (listed_before rows_at views before t after) ++ os) after_stay
+      ap (filter (stays name)) (objects_split rows_at l before t after)
+      ∙ (filter-append (stays name) (listed_before rows_at l before t after) back
+      ∙ (ap (λ os. filter (stays name) (listed_before rows_at l before t after) ++ os) after_stay
       ∙ (ap (λ os. os ++ back) (filter-append (stays name) front (seen ++ (flat_map index_objects before ++ index_objects t)))
-      ∙ (ap (λ os. (os ++ filter (stays name) (seen ++ (flat_map index_objects before ++ index_objects t))) ++ back) tables_stay
+      ∙ (ap (λ os. (os ++ filter (stays name) (seen ++ (flat_map index_objects before ++ index_objects t))) ++ back) all_tables_stay
       ∙ (ap (λ os. (front ++ os) ++ back) (filter-append (stays name) seen (flat_map index_objects before ++ index_objects t))
       ∙ (ap (λ os. (front ++ (os ++ filter (stays name) (flat_map index_objects before ++ index_objects t))) ++ back) views_stay
       ∙ (ap (λ os. (front ++ (seen ++ os)) ++ back) (filter-append (stays name) (flat_map index_objects before) (index_objects t))
       ∙ (ap (λ os. (front ++ (seen ++ (os ++ filter (stays name) (index_objects t)))) ++ back) before_stay
-      ∙ (ap (λ os. (front ++ (seen ++ (flat_map index_objects before ++ os))) ++ back) (others_stay name t t.indexes)
+      ∙ (ap (λ os. (front ++ (seen ++ (flat_map index_objects before ++ os))) ++ back) (others_stay name t t.indexes apart.0)
       ∙ (ap (λ os. (os ++ (seen ++ (flat_map index_objects before ++ index_objects (without_index name t)))) ++ back) (sym (same_tables rows_at before t (without_index name t).indexes after))
-      ∙ sym (objects_split rows_at views before (without_index name t) after)))))))))))
-
-pub kept_alike : (name : Name) (found listed : Option (Name × Object)) → option_map (λ (o : Name × Object). o.1) found ≡ option_map (λ (o : Name × Object). o.1) listed
-    → ((o x : Name × Object) → found ≡ Some o → listed ≡ Some x → folded o.0 ≡ folded x.0)
-    → option_map (λ (o : Name × Object). o.1) (kept (stays name) found) ≡ option_map (λ (o : Name × Object). o.1) (kept (stays name) listed)
-kept_alike name None None e names = refl
-kept_alike name None (Some x) e names = absurd cc
-kept_alike name (Some o) None e names = absurd cc
-kept_alike name (Some o) (Some x) e names = by_test (stays name x) (ap (λ (k : Name). not (bytes_eq (folded name) k)) (names o x refl refl)) cc
-  where
-    by_test : (b : Bool) → stays name o ≡ b → o.1 ≡ x.1 → option_map (λ (y : Name × Object). y.1) (cond (stays name o) (Some o) None) ≡ option_map (λ (y : Name × Object). y.1) (cond b (Some x) None)
-    by_test true e is = ap (λ b. option_map (λ (y : Name × Object). y.1) (cond b (Some o) None)) e ∙ ap (λ y. Some y) is
-    by_test false e is = ap (λ b. option_map (λ (y : Name × Object). y.1) (cond b (Some o) None)) e
+      ∙ sym (objects_split rows_at l before (without_index name t) after)))))))))))
 
 pub lists_other_indexes : ListsOtherIndexes
-lists_other_indexes rows_at l db name t is found = record {
-  lists = λ q.
-      let entry = entry_at (folded q) db in
-      let listed = list.find (has_name q) (objects_of rows_at l) in
-      found_entry (folded q) (without_object name db)
-      ∙ (ap (option_map (λ (o : Name × Object). o.1)) (found_kept (stays name) (λ (e : Name × Object). eq_by_cmp name_order (folded q) e.0) db (keyed_once (folded q) db sorted))
-      ∙ (kept_alike name entry listed (sym (found_entry (folded q) db) ∙ is.lists q)
-      (λ o x at there. (ap folded (sym (tells_apart exact_bytes (folded q) o.0 (found_holds (λ (e : Name × Object). eq_by_cmp name_order (folded q) e.0) db o at)))
-      ∙ (folded_twice q ∙ sym (same (folded x.0) (folded q) (found_holds (has_name q) (objects_of rows_at l) x there)))))
-      ∙ (ap (option_map (λ (o : Name × Object). o.1)) (sym (found_kept (stays name) (has_name q) (objects_of rows_at l) (once_named q (objects_of rows_at l) once)))
-      ∙ ap (named_among q) left)));
-  quiet = only_still (stays name) db is.quiet;
-  named = record {
-    rising = rising (without_object name db) (sorted_still (stays name) db sorted);
-    each_folded = folded_still (stays name) db is.named.each_folded;
-  };
-  once = ap not (ap (any_twice is_same_name) (sym (names_are rows_at (replacing (without_index name t) l)) ∙ ap (map (λ (o : Name × Object). o.0)) (sym left)) ∙ once_still (stays name) (objects_of rows_at l) once);
-}
+lists_other_indexes rows_at l db name t is found no_on =
+    as_listed rows_at (replacing (without_index name t) l) (without name db) (filter (stays name) (objects_of rows_at l)) left (less name (objects_of rows_at l) db (as_objects rows_at l db is))
   where
-    sorted : is_sorted name_order db ≡ true
-    sorted = in_order db is.named.rising
-
     names_once : any_twice is_same_name (names_of l) ≡ false
     names_once = is_no (any_twice is_same_name (names_of l)) is.once
-
-    once : any_twice is_same_name (map (λ (o : Name × Object). o.0) (objects_of rows_at l)) ≡ false
-    once = ap (any_twice is_same_name) (names_are rows_at l) ∙ names_once
 
     split : IsSplit t l.tables
     split = split_at (has_index name) l.tables t (once_first (table_names l.tables) _ names_once) found
@@ -439,6 +432,6 @@ lists_other_indexes rows_at l db name t is found = record {
     left : filter (stays name) (objects_of rows_at l) ≡ objects_of rows_at (replacing (without_index name t) l)
     left =
         ap (λ (ts : List Table). filter (stays name) (objects_of rows_at (record l { tables = ts }))) split.parts
-        ∙ (objects_less rows_at name l.views split.before t split.after (found_holds (has_index name) l.tables t found)
+        ∙ (objects_less rows_at name l split.before t split.after (found_holds (has_index name) l.tables t found) no_on
         (subst (λ (ts : List Table). any_twice is_same_name (names_of (record l { tables = ts })) ≡ false) split.parts names_once)
         ∙ ap (λ (ts : List Table). objects_of rows_at (record l { tables = ts })) (sym (split.replaced (without_index name t) refl)))

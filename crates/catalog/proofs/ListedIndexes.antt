@@ -14,25 +14,26 @@ use Rattle.sqlval.specs.Lists.{any_twice}
 use Rattle.sqlval.specs.Names.{folded, is_same_name}
 use Rattle.sqlval.specs.declared.value.Value.{Value}
 use Rattle.catalog.specs.Database.{Name, Database, Object, ATable, AnIndex, AView, ATrigger, Index, indexes_of, name_order, object, with_object}
-use Rattle.catalog.specs.Listed.{Listed, as_index, index_objects, is_table, named_among, names_of, objects_of, table_named, table_object, view_object}
+use Rattle.catalog.specs.Listed.{as_index, index_objects, is_table, named_among, names_of, objects_of, table_named, table_object, treeless_names, treeless_objects, trigger_object, view_object}
 use Rattle.catalog.specs.Named.{IsNamed, ListsIndexes}
 use Rattle.catalog.specs.declared.tables.Index.{Index as ListedIndex}
 use Rattle.catalog.specs.declared.tables.Table.{Table}
+use Rattle.catalog.specs.declared.tables.Trigger.{Trigger}
 use Rattle.catalog.specs.declared.tables.View.{View}
 use Rattle.catalog.proofs.Dropped.{is_no, joined, names_are, neither, other_name}
 use Rattle.catalog.proofs.NamedDatabases.{folded_twice, keeps_named, one_database, same_test}
 
 -- ---- the database that some objects of different names make
 
-abbrev made : List (Name × Object) → Database
+abbrev pub made : List (Name × Object) → Database
 made [] = []
 made (o ∷ os) = with_object (made os) o.0 o.1
 
-made_named : (os : List (Name × Object)) → IsNamed (made os)
+pub made_named : (os : List (Name × Object)) → IsNamed (made os)
 made_named [] = record { rising = refl; each_folded = tt }
 made_named (o ∷ os) = keeps_named (made os) o.0 o.1 (made_named os)
 
-made_finds : (os : List (Name × Object)) (name : Name) → object (made os) name ≡ named_among name os
+pub made_finds : (os : List (Name × Object)) (name : Name) → object (made os) name ≡ named_among name os
 made_finds [] name = refl
 made_finds (o ∷ os) name =
     find-put name_order nat_list_cmp_total (folded name) (folded o.0) o.1 (made os)
@@ -46,7 +47,7 @@ made_finds (o ∷ os) name =
 -- ---- a test of all objects
 
 module _ (q : Object → Bool) where
-  abbrev any_of : List (Name × Object) → Bool
+  abbrev pub any_of : List (Name × Object) → Bool
   any_of os = list_any (λ o. q o.1) os
 
   -- a new name is one more
@@ -75,7 +76,7 @@ module _ (q : Object → Bool) where
       ap (λ b. option_map (λ (x : Name × Object). x.1) (cond b (Some o) (list.find (λ (x : Name × Object). is_same_name x.0 name) os))) (other_name name o.0 parts.0)
       ∙ none_named name os parts.1
 
-  any_made : (os : List (Name × Object)) → any_twice is_same_name (map (λ o. o.0) os) ≡ false → any_of (made os) ≡ any_of os
+  pub any_made : (os : List (Name × Object)) → any_twice is_same_name (map (λ o. o.0) os) ≡ false → any_of (made os) ≡ any_of os
   any_made [] once = refl
   any_made (o ∷ os) once =
       let parts = neither (list_any (is_same_name o.0) (map (λ o. o.0) os)) (any_twice is_same_name (map (λ o. o.0) os)) once in
@@ -109,6 +110,10 @@ module _ (rows_at : ℕ → List (ℤ × List Value)) (name : Name) (p : Index �
   no_views : (views : List View) → list_any (λ o. on name p o.1) (map view_object views) ≡ false
   no_views [] = refl
   no_views (v ∷ vs) = no_views vs
+
+  no_triggers : (triggers : List Trigger) → list_any (λ o. on name p o.1) (map trigger_object triggers) ≡ false
+  no_triggers [] = refl
+  no_triggers (t ∷ ts) = no_triggers ts
 
   of_indexes : (t : Table) (is : List ListedIndex) (os : List (Name × Object))
       → list_any (λ o. on name p o.1) (map (λ (i : ListedIndex). (i.name, AnIndex (as_index t i))) is ++ os)
@@ -186,9 +191,15 @@ lists_indexes rows_at l db name t p of found =
     any_on name p db
     ∙ ap (list_any (λ (o : Name × Object). on name p o.1)) same
     ∙ any_made (on name p) objects (ap (any_twice is_same_name) (names_are rows_at l) ∙ once)
-    ∙ list_any-append (λ (o : Name × Object). on name p o.1) (map (table_object rows_at) l.tables) (map view_object l.views ++ flat_map index_objects l.tables)
-    ∙ ap (λ b. b || list_any (λ (o : Name × Object). on name p o.1) (map view_object l.views ++ flat_map index_objects l.tables)) (no_tables rows_at name p l.tables)
-    ∙ list_any-append (λ (o : Name × Object). on name p o.1) (map view_object l.views) (flat_map index_objects l.tables)
-    ∙ ap (λ b. b || list_any (λ (o : Name × Object). on name p o.1) (flat_map index_objects l.tables)) (no_views rows_at name p l.views)
+    ∙ list_any-append (λ (o : Name × Object). on name p o.1) (map (table_object rows_at) l.tables) (treeless_objects l ++ flat_map index_objects l.tables)
+    ∙ ap (λ b. b || list_any (λ (o : Name × Object). on name p o.1) (treeless_objects l ++ flat_map index_objects l.tables)) (no_tables rows_at name p l.tables)
+    ∙ list_any-append (λ (o : Name × Object). on name p o.1) (treeless_objects l) (flat_map index_objects l.tables)
+    ∙ ap (λ b. b || list_any (λ (o : Name × Object). on name p o.1) (flat_map index_objects l.tables)) no_treeless
     ∙ of_tables rows_at name p l.tables
-    ∙ found_alone rows_at name p l.tables (map (λ (v : View). v.definition.name) l.views ++ flat_map (λ (t : Table). map (λ (i : ListedIndex). i.name) t.indexes) l.tables) t once found
+    ∙ found_alone rows_at name p l.tables (treeless_names l ++ flat_map (λ (t : Table). map (λ (i : ListedIndex). i.name) t.indexes) l.tables) t once found
+  where
+    no_treeless : list_any (λ (o : Name × Object). on name p o.1) (treeless_objects l) ≡ false
+    no_treeless =
+        list_any-append (λ (o : Name × Object). on name p o.1) (map view_object l.views) (map trigger_object l.triggers)
+        ∙ ap (λ b. b || list_any (λ (o : Name × Object). on name p o.1) (map trigger_object l.triggers)) (no_views rows_at name p l.views)
+        ∙ no_triggers rows_at name p l.triggers

@@ -1,5 +1,5 @@
 -- Databases whose names are in order and folded, and those of listed tables.
-use Rattle.std.proofs.Common.{◌≡◌, inl, inr, refl, sym, ap, subst, ◌∙◌, ℕ, ℤ, Bool, true, false, List, [], ◌∷◌, ◌++◌, map, Option, Some, None, cond}
+use Rattle.std.proofs.Common.{◌≡◌, inl, inr, refl, sym, ap, subst, ◌∙◌, ℕ, ℤ, Bool, true, false, List, [], ◌∷◌, map, Option, Some, None, cond}
 use Rattle.std.proofs.lemmas.Bool.{false≢true}
 use Rattle.std.proofs.lemmas.Cmp.{nat_list_cmp_total}
 use Rattle.std.proofs.lemmas.Map.Lookups.{exact_bytes}
@@ -12,23 +12,23 @@ use Rattle.std.specs.FinMap.Entries.{put, find, find-put, by_order, below_all, i
 use Rattle.std.specs.List as list
 use Rattle.std.specs.List.{AllByRecursion, list_all}
 use Rattle.std.specs.Ordering.{eq_by_cmp, is_eq, is_lt}
-use Rattle.std.specs.Prelude.{MatchOption, T, flat_map, is_some, option_map}
+use Rattle.std.specs.Prelude.{MatchOption, T, is_some, option_map}
 use Rattle.std.specs.Str.{bytes_eq}
 use Rattle.std.specs.declared.cmp.Ordering.{Ordering}
 use Rattle.std.specs.declared.cmp.Ordering.TheVariants.{Less, Equal, Greater}
 use Rattle.sqlval.specs.Lists.{is_rising}
 use Rattle.sqlval.specs.Names.{folded, is_same_name}
 use Rattle.sqlval.specs.declared.value.Value.{Value}
-use Rattle.catalog.specs.Database.{Name, Database, Object, ATable, AnIndex, AView, object, with_object, name_order}
-use Rattle.catalog.specs.Laws.{IsNoSource, IsNoTable}
-use Rattle.catalog.specs.Listed.{Listed, Lists, as_view, has_no_trigger, index_objects, is_no_trigger, named_among, objects_of, as_index, with_rows, table_named, table_object, view_named, view_object}
+use Rattle.catalog.specs.Database.{Name, Database, Object, ATable, AnIndex, AView, ATrigger, object, with_object, name_order}
+use Rattle.catalog.specs.Laws.{IsIndexOrNone, IsNoSource}
+use Rattle.catalog.specs.Listed.{Listed, Lists, as_view, named_among, objects_of, with_rows, table_named, trigger_named, view_named}
 use Rattle.catalog.specs.Named.{IsInOrder, IsNamed, KeepsNamed, ListedDatabase, ListedNames, OneDatabase}
 use Rattle.catalog.specs.Rows.{are_rows, holds_rows}
-use Rattle.catalog.specs.declared.tables.Index.{Index as ListedIndex}
 use Rattle.catalog.specs.declared.tables.Table.{Table}
+use Rattle.catalog.specs.declared.tables.Trigger.{Trigger}
 use Rattle.catalog.specs.declared.tables.View.{View}
 use Rattle.catalog.proofs.Found.{as_object, behind_found, listed_as, no_table}
-use Rattle.catalog.proofs.OtherRows.{both_true, first_true, no_trigger, rest_true}
+use Rattle.catalog.proofs.OtherRows.{both_true, first_true, rest_true}
 
 -- ---- rising names
 
@@ -127,23 +127,18 @@ keeps_named db name o named = record {
 pub same_test : (a b : Name) → eq_by_cmp name_order a b ≡ bytes_eq b a
 same_test a b = (eq_by_cmp_equiv nat_list_cmp_total).symm a b ∙ is_eq-slice_cmp b a
 
--- the first of some objects of which none is a trigger is what their database has
+-- the first of some objects is what their database has
 record IsOfObjects (objects : List (Name × Object)) (db : Database) : Type 0 where
   pub named : IsNamed db
-  pub only : has_no_trigger db ≡ true
   pub finds : (name : Name) → object db name ≡ named_among name objects
 
-abbrev ArePlain : List (Name × Object) → Type 0
-ArePlain objects = AllByRecursion (λ o. is_no_trigger o.1 ≡ true) objects
-
-database_of : (objects : List (Name × Object)) → ArePlain objects → (db : Database) × IsOfObjects objects db
-database_of [] plain = ([], record { named = record { rising = refl; each_folded = tt }; only = refl; finds = λ name. refl })
-database_of (o ∷ os) plain =
-    let (db, is) = database_of os plain.1 in (
+database_of : (objects : List (Name × Object)) → (db : Database) × IsOfObjects objects db
+database_of [] = ([], record { named = record { rising = refl; each_folded = tt }; finds = λ name. refl })
+database_of (o ∷ os) =
+    let (db, is) = database_of os in (
       with_object db o.0 o.1,
       record {
         named = keeps_named db o.0 o.1 is.named;
-        only = no_trigger db o.0 o.1 is.only plain.0;
         finds = λ name.
             find-put name_order nat_list_cmp_total (folded name) (folded o.0) o.1 db
             ∙ (ap (λ b. cond b (Some o.1) (object db name)) (same_test (folded name) (folded o.0))
@@ -156,27 +151,9 @@ database_of (o ∷ os) plain =
     by_test name true = refl
     by_test name false = refl
 
-plain_indexes : (t : Table) (is : List ListedIndex) (os : List (Name × Object)) → ArePlain os → ArePlain (map (λ (i : ListedIndex). (i.name, AnIndex (as_index t i))) is ++ os)
-plain_indexes t [] os plain = plain
-plain_indexes t (i ∷ is) os plain = (refl, plain_indexes t is os plain)
-
-plain_behind : (tables : List Table) → ArePlain (flat_map index_objects tables)
-plain_behind [] = tt
-plain_behind (t ∷ ts) = plain_indexes t t.indexes (flat_map index_objects ts) (plain_behind ts)
-
-plain_views : (views : List View) (os : List (Name × Object)) → ArePlain os → ArePlain (map view_object views ++ os)
-plain_views [] os plain = plain
-plain_views (v ∷ vs) os plain = (refl, plain_views vs os plain)
-
-plain_tables : (rows_at : ℕ → List (ℤ × List Value)) (tables : List Table) (os : List (Name × Object)) → ArePlain os → ArePlain (map (table_object rows_at) tables ++ os)
-plain_tables rows_at [] os plain = plain
-plain_tables rows_at (t ∷ ts) os plain = (refl, plain_tables rows_at ts os plain)
-
 pub listed_database : ListedDatabase
 listed_database rows_at l =
-    let (db, is) = database_of (objects_of rows_at l)
-    (plain_tables rows_at l.tables (map view_object l.views ++ flat_map index_objects l.tables) (plain_views l.views (flat_map index_objects l.tables) (plain_behind l.tables))) in
-    (db, is.named, is.only, is.finds)
+    let (db, is) = database_of (objects_of rows_at l) in (db, is.named, is.finds)
 
 -- what is found at any name
 found_listed : (rows_at : ℕ → List (ℤ × List Value)) (l : Listed) (db : Database) (q : Name) → AreFolded db → Lists rows_at l db
@@ -232,15 +209,22 @@ rows_in : (rows_at : ℕ → List (ℤ × List Value)) (behind : Option Object) 
 rows_in rows_at behind o (Some t) others each h = ap holds_rows (sym (same_object (ATable (with_rows t (rows_at t.root))) o h)) ∙ each t refl
 rows_in rows_at behind o None others each h = others o h
 
-no_rows_in : (found : Option Object) → IsNoSource found → (x : Object) → found ≡ Some x → holds_rows x ≡ true
+no_rows_in : (found : Option Object) → IsIndexOrNone found → (x : Object) → found ≡ Some x → holds_rows x ≡ true
 no_rows_in found (inl none) x h = absurd (some_is_none x (sym h ∙ none))
 no_rows_in found (inr (i, is)) x h = ap holds_rows (same_object x (AnIndex i) (sym h ∙ is))
+
+no_source_rows : (name : Name) (l : Listed) (found : Option Object) (x : Object) → IsNoSource l name found → found ≡ Some x → holds_rows x ≡ true
+no_source_rows name l found x = by_case (trigger_named name l.triggers)
+  where
+    by_case : (named : Option Trigger) → MatchOption named (IsIndexOrNone found) (λ t. found ≡ Some (ATrigger t.definition)) → found ≡ Some x → holds_rows x ≡ true
+    by_case None none h = no_rows_in found none x h
+    by_case (Some t) is h = ap holds_rows (same_object x (ATrigger t.definition) (sym h ∙ is))
 
 no_rows_behind : (name : Name) (l : Listed) (x : Object) → behind_found name l ≡ Some x → holds_rows x ≡ true
 no_rows_behind name l x h = by_case (view_named name l.views) (no_table name l)
   where
-    by_case : (found : Option View) → MatchOption found (IsNoSource (behind_found name l)) (λ v. behind_found name l ≡ Some (AView (as_view v))) → holds_rows x ≡ true
-    by_case None none = no_rows_in (behind_found name l) none x h
+    by_case : (found : Option View) → MatchOption found (IsNoSource l name (behind_found name l)) (λ v. behind_found name l ≡ Some (AView (as_view v))) → holds_rows x ≡ true
+    by_case None none = no_source_rows name l (behind_found name l) x none h
     by_case (Some v) is = ap holds_rows (same_object x (AView (as_view v)) (sym h ∙ is))
 
 rows_by : (o : Object) (b : Bool) (found : Option Object) → (found ≡ Some o → holds_rows o ≡ true) → cond b found None ≡ Some o → holds_rows o ≡ true

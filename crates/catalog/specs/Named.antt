@@ -4,8 +4,8 @@ use Rattle.std.specs.List.{AllByRecursion, Contains, list_any}
 use Rattle.sqlval.specs.Lists.{is_rising}
 use Rattle.sqlval.specs.Names.{folded, is_same_name}
 use Rattle.sqlval.specs.declared.value.Value.{Value}
-use Rattle.catalog.specs.Database.{Name, Database, Object, AnIndex, Index, indexes_of, name_order, object, with_object}
-use Rattle.catalog.specs.Listed.{Listed, Lists, are_named_once, as_index, has_no_trigger, named_among, objects_of, with_rows, table_named, without_table}
+use Rattle.catalog.specs.Database.{Name, Database, Object, AnIndex, ATrigger, Index, indexes_of, name_order, object, with_object}
+use Rattle.catalog.specs.Listed.{Listed, Lists, are_named_once, as_index, named_among, objects_of, with_rows, table_named, without_table, without_triggers_on}
 use Rattle.catalog.specs.Rows.{are_rows, is_in_order}
 use Rattle.catalog.specs.declared.tables.Table.{Table}
 
@@ -24,7 +24,7 @@ KeepsNamed = (db : Database) (name : Name) (o : Object) → IsNamed db → IsNam
 
 -- any listed objects, their tables with any rows, are those of a database without other objects
 abbrev pub ListedDatabase : Type 0
-ListedDatabase = (rows_at : ℕ → List (ℤ × List Value)) (l : Listed) → (db : Database) × IsNamed db × (has_no_trigger db ≡ true) × Lists rows_at l db
+ListedDatabase = (rows_at : ℕ → List (ℤ × List Value)) (l : Listed) → (db : Database) × IsNamed db × Lists rows_at l db
 
 -- a database of listed objects is in order where each table's rows are such as it may hold
 abbrev pub IsInOrder : Type 0
@@ -36,26 +36,30 @@ abbrev pub ListedNames : Type 0
 ListedNames = (rows_at : ℕ → List (ℤ × List Value)) (l : Listed) (db : Database) → IsNamed db → Lists rows_at l db
     → (name : Name) → Contains (map (λ o. o.0) db) name ↔ ((folded name ≡ name) × (is_some (named_among name (objects_of rows_at l)) ≡ true))
 
--- whether an object goes where the table of a name is dropped: it has the name, or it is an index on the table
-abbrev pub goes_with_table : Name → Name × Object → Bool
-goes_with_table name (other, AnIndex i) = is_same_name name other || is_same_name name i.table
-goes_with_table name (other, o) = is_same_name name other
+-- the object itself, the indexes of a table, and the triggers of a table or a view
+abbrev pub goes_with : Name → Name × Object → Bool
+goes_with name (other, AnIndex i) = is_same_name name other || is_same_name name i.table
+goes_with name (other, ATrigger d) = is_same_name name other || is_same_name name d.target
+goes_with name (other, o) = is_same_name name other
 
--- the database without the table of a name and its indexes
-abbrev pub without_table_object : Name → Database → Database
-without_table_object name db = filter (λ o. not (goes_with_table name o)) db
+-- the database without the object of a name, and without what goes with it
+abbrev pub without : Name → Database → Database
+without name db = filter (λ o. not (goes_with name o)) db
 
 -- the database has what is listed and no other objects, with its names in order
 pub record IsOfListed (rows_at : ℕ → List (ℤ × List Value)) (l : Listed) (db : Database) : Type 0 where
   pub lists : Lists rows_at l db
-  pub quiet : has_no_trigger db ≡ true
   pub named : IsNamed db
   pub once : are_named_once l ≡ true
 
--- A listed database without one of its tables and its indexes is that of the others, with the rows that they had.
+-- what is listed, without the tables of a name and their triggers
+abbrev pub less_table : Name → Listed → Listed
+less_table name l = record l { tables = without_table name l.tables; triggers = without_triggers_on name l.triggers }
+
+-- A listed database without one of its tables, and its indexes and triggers, is that of the others, with the rows that they had.
 abbrev pub ListsOthers : Type 0
 ListsOthers = (rows_at : ℕ → List (ℤ × List Value)) (l : Listed) (db : Database) (name : Name) (t : Table) → IsOfListed rows_at l db
-    → table_named name l.tables ≡ Some t → IsOfListed rows_at (record l { tables = without_table name l.tables }) (without_table_object name db)
+    → table_named name l.tables ≡ Some t → IsOfListed rows_at (less_table name l) (without name db)
 
 -- Where a table is listed, a test is true of one of the database's indexes on it exactly where it is true of one that is listed with it.
 abbrev pub ListsIndexes : Type 0

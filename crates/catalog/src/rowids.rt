@@ -1,10 +1,10 @@
 //! Rowids of the schema table that are free.
 
-ghost use Rattle.std.specs.Prelude.{◌≡◌, ◌<◌, ◌++◌, ℤ, length, slice_index_or, false, flat_map, IfOk, IfErr, OnOk};
+ghost use Rattle.std.specs.Prelude.{◌≡◌, ◌<◌, ◌++◌, ℤ, length, slice_index_or, false, flat_map, map, IfOk, IfErr, OnOk};
 ghost use Rattle.catalog.specs.Listed as listed;
 ghost use Rattle.catalog.specs.UnusedRowids as unused;
 
-use crate::tables::{Index, Table, View};
+use crate::tables::{Index, Table, Trigger, View};
 use sqlval::{Fault, R};
 use std::alloc::Global;
 use std::rc::Rc;
@@ -54,16 +54,49 @@ fn table_rowids(alloc: Global, tables: &[Rc<Table>]) -> R<Vec<i64>>
     Ok(rowids)
 }
 
-/// The rowids of the rows of tables, of their indexes and of views. (`Memory` alone.)
-pub(crate) fn rowids_of(alloc: Global, tables: &[Rc<Table>], views: &[Rc<View>]) -> R<Vec<i64>>
-    ensures are { IfOk result (λ rowids. rowids.items
-        ≡ listed.rowids_of (record { tables = listed.shared tables.now; views = listed.shared views.now })) }
+/// The rowid of a trigger's row.
+fn rowid_of_trigger(trigger: &Trigger) -> i64
+    ensures { result ≡ trigger.now.rowid }
+{
+    trigger.rowid
+}
+
+/// Adds the rowids of the rows of views. (`Memory` alone.)
+fn push_views(rowids: &mut Vec<i64>, views: &[Rc<View>]) -> R<()>
+    ensures pushed { OnOk result (rowids.new.items ≡ rowids.old.items ++ map (λ v. v.rowid) (listed.shared views.now)) }
     ensures refused { IfErr result (λ fault. fault ≡ Fault.Memory) }
 {
-    let mut rowids = table_rowids(alloc, tables)?;
     'views: for view in views {
         rowids.push(rowid_of_view(view))?;
     }
+    Ok(())
+}
+
+/// Adds the rowids of the rows of triggers. (`Memory` alone.)
+fn push_triggers(rowids: &mut Vec<i64>, triggers: &[Rc<Trigger>]) -> R<()>
+    ensures pushed { OnOk result (rowids.new.items ≡ rowids.old.items ++ map (λ t. t.rowid) (listed.shared triggers.now)) }
+    ensures refused { IfErr result (λ fault. fault ≡ Fault.Memory) }
+{
+    'triggers: for trigger in triggers {
+        rowids.push(rowid_of_trigger(trigger))?;
+    }
+    Ok(())
+}
+
+/// The rowids of all rows of the schema table. (`Memory` alone.)
+pub(crate) fn rowids_of(
+    alloc: Global,
+    tables: &[Rc<Table>],
+    views: &[Rc<View>],
+    triggers: &[Rc<Trigger>],
+) -> R<Vec<i64>>
+    ensures are { IfOk result (λ rowids. rowids.items
+        ≡ listed.rowids_of (record { tables = listed.shared tables.now; views = listed.shared views.now; triggers = listed.shared triggers.now })) }
+    ensures refused { IfErr result (λ fault. fault ≡ Fault.Memory) }
+{
+    let mut rowids = table_rowids(alloc, tables)?;
+    push_views(&mut rowids, views)?;
+    push_triggers(&mut rowids, triggers)?;
     Ok(rowids)
 }
 

@@ -11,7 +11,7 @@ use Rattle.catalog.specs.Rows.{are_rows}
 use Rattle.catalog.specs.declared.tables.Index.{Index}
 use Rattle.catalog.specs.declared.tables.Table.{Table}
 use Rattle.row_scan.specs.Rows.{TableRow}
-use Rattle.db_pages.specs.Schema.{IndexTold, TableTold, Told, ViewTold}
+use Rattle.db_pages.specs.Schema.{IndexTold, TableTold, Told, TriggerTold, ViewTold}
 use Rattle.db_pages.specs.Stored.{AreHeld, all_trees}
 use Rattle.db_pages.proofs.ReorderedPairs.{pairs_both, reordered_count, reordered_pairs}
 use Rattle.db_load.specs.Loading.{bare}
@@ -34,6 +34,7 @@ module _ (pages : PageMap) (size : ℕ) (rows_at : ℕ → List TableRow) where
   IsTreeTold (TableTold t) owner = IsRowsTree t (rows_at t.root) owner × (are_rows (with_rows t (rows_at t.root)) ≡ true) × IsTree pages size owner
   IsTreeTold (IndexTold t i) owner = IsEntriesTree (rows_at t.root) i owner × IsTree pages size owner
   IsTreeTold (ViewTold v) owner = ⊥
+  IsTreeTold (TriggerTold g) owner = ⊥
 
   indexes_told : (t : Table) (is : List Index) (owners : List Owner) → Pairwise (IsEntriesTree (rows_at t.root)) is owners → AllByRecursion (IsTree pages size) owners
       → Pairwise IsTreeTold (map (λ (i : Index). IndexTold (bare t) i) is) owners

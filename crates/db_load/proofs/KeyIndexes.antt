@@ -12,17 +12,16 @@ use Rattle.catalog.specs.Database.{AnIndex, Name, Object}
 use Rattle.catalog.specs.Listed.{Listed, as_index, key_columns}
 use Rattle.catalog.specs.declared.tables.Index.{Index}
 use Rattle.catalog.specs.declared.tables.Table.{Table}
-use Rattle.catalog.specs.declared.tables.View.{View}
 use Rattle.catalog.proofs.NamedDatabases.{folded_twice}
 use Rattle.query_names.specs.Schema.{automatic, automatic_name}
-use Rattle.db_pages.specs.Schema.{HasKeyIndexes, IndexTold, TableTold, Told, ViewTold, all_told, automatic_objects, due_objects, tables_told}
+use Rattle.db_pages.specs.Schema.{HasKeyIndexes, IndexTold, TableTold, Told, TriggerTold, ViewTold, all_told, automatic_objects, due_objects, tables_told}
 use Rattle.db_load.specs.Loading.{bare}
 use Rattle.db_load.specs.Reading.{AreDueOnce, IsDue, IsDueTold, StandsIn, has_all_keys, name_told, parts_of}
 use Rattle.db_pages.proofs.Reordering.{reordered_map}
 use Rattle.db_load.proofs.DueItems.{all_of, all_of_them, differ, few, once_kept}
 use Rattle.db_load.proofs.Items.{all_back, all_both, all_front, among_filter, among_map, among_reordered}
 use Rattle.db_load.proofs.ToldAdded.{index_parts, once_first, parts_more}
-use Rattle.db_load.proofs.ToldParts.{AreApart, apart_first, apart_more, index_names, map_append, names_told, neither, of_tables, reordered_twice, table_parts}
+use Rattle.db_load.proofs.ToldParts.{AreApart, apart_first, apart_more, index_names, map_append, names_told, neither, of_tables, reordered_twice, table_parts, treeless_all, treeless_told}
 
 -- ---- what the keys ask for
 
@@ -153,7 +152,7 @@ and_parts false b h = absurd (false≢true h)
 
 -- where each has as many as keys
 pub have_keys : (l : Listed) → AreApart (all_told l) → AreAllDue l.tables → list_all has_all_keys l.tables ≡ true → AllByRecursion HasKeyIndexes l.tables
-have_keys l apart due many = of_each l.tables (own_names l.tables (apart_first (tables_told l.tables) (map ViewTold l.views) apart)) due many
+have_keys l apart due many = of_each l.tables (own_names l.tables (apart_first (tables_told l.tables) (treeless_told l) apart)) due many
   where
     of_each : (us : List Table) → AllByRecursion HasOwnNames us → AreAllDue us → list_all has_all_keys us ≡ true → AllByRecursion HasKeyIndexes us
     of_each [] once due many = tt
@@ -192,11 +191,13 @@ abbrev pub CanComeDue : Told → Type 0
 CanComeDue (TableTold t) = ⊤
 CanComeDue (IndexTold t i) = IsDue t i × AreDueOnce t
 CanComeDue (ViewTold v) = ⊤
+CanComeDue (TriggerTold g) = ⊤
 
 -- of tables that have the indexes that their keys ask for, each can
 pub told_due : (l : Listed) → AreApart (all_told l) → AllByRecursion HasKeyIndexes l.tables → AllByRecursion CanComeDue (all_told l)
 told_due l apart keys =
-    all_both CanComeDue (tables_told l.tables) (map ViewTold l.views) (of_each l.tables (own_names l.tables (apart_first (tables_told l.tables) (map ViewTold l.views) apart)) keys) (of_views l.views)
+    all_both CanComeDue (tables_told l.tables) (treeless_told l) (of_each l.tables (own_names l.tables (apart_first (tables_told l.tables) (treeless_told l) apart)) keys)
+    (treeless_all CanComeDue l (λ v. tt) (λ g. tt))
   where
     of_indexes : (u : Table) (is : List Index) → AreDueOnce u → AllByRecursion (IsDue u) is → AllByRecursion CanComeDue (map (λ (i : Index). IndexTold u i) is)
     of_indexes u [] once due = tt
@@ -208,7 +209,3 @@ told_due l apart keys =
       tt,
       all_both CanComeDue (map (λ (i : Index). IndexTold u i) u.indexes) (tables_told us) (of_indexes u u.indexes (due_once u keys.0 once.0) (are_due u keys.0)) (of_each us once.1 keys.1),
     )
-
-    of_views : (vs : List View) → AllByRecursion CanComeDue (map ViewTold vs)
-    of_views [] = tt
-    of_views (v ∷ vs) = (tt, of_views vs)

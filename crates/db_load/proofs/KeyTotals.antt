@@ -5,9 +5,10 @@ use Rattle.std.proofs.lemmas.List.{append-nil}
 use Rattle.catalog.specs.Listed.{Listed}
 use Rattle.catalog.specs.declared.tables.Index.{Index}
 use Rattle.catalog.specs.declared.tables.Table.{Table}
+use Rattle.catalog.specs.declared.tables.Trigger.{Trigger}
 use Rattle.catalog.specs.declared.tables.View.{View}
 use Rattle.db_pages.specs.Reordering.{AreReordered}
-use Rattle.db_pages.specs.Schema.{HasKeyIndexes, IndexTold, TableTold, Told, ViewTold, all_told, automatic_objects, due_objects, tables_told}
+use Rattle.db_pages.specs.Schema.{HasKeyIndexes, IndexTold, TableTold, Told, TriggerTold, ViewTold, all_told, automatic_objects, due_objects, tables_told}
 use Rattle.db_load.specs.Loading.{bare}
 use Rattle.db_load.specs.Reading.{AreAlike, IsDueTold, bare_told, has_all_keys, parts_of}
 use Rattle.db_pages.proofs.Reordering.{all_reordered, is_reordered, reordered_is}
@@ -15,7 +16,7 @@ use Rattle.db_load.proofs.DueItems.{reordered_length}
 use Rattle.db_load.proofs.Items.{filter_append, reordered_filter}
 use Rattle.db_load.proofs.KeyIndexes.{AreAllDue, HasOwnNames, and_parts, are_due, automatic_in, due_many, due_parts, is_number, objects_few, objects_many, own_names, parts_due}
 use Rattle.db_load.proofs.ToldAdded.{index_parts, parts_more}
-use Rattle.db_load.proofs.ToldParts.{AreApart, apart_bare, apart_first, apart_reordered, bare_apart, parts_are, table_parts}
+use Rattle.db_load.proofs.ToldParts.{AreApart, apart_bare, apart_first, apart_reordered, bare_apart, parts_are, table_parts, treeless_told}
 
 -- ---- tables that are alike
 
@@ -24,11 +25,13 @@ abbrev has_tree : Told → Bool
 has_tree (TableTold t) = true
 has_tree (IndexTold t i) = true
 has_tree (ViewTold v) = false
+has_tree (TriggerTold g) = false
 
 bare_tree : (x : Told) → has_tree (bare_told x) ≡ has_tree x
 bare_tree (TableTold t) = refl
 bare_tree (IndexTold t i) = refl
 bare_tree (ViewTold v) = refl
+bare_tree (TriggerTold g) = refl
 
 all_kept : (xs : List Told) → list_all has_tree xs ≡ true → filter has_tree (map bare_told xs) ≡ map bare_told xs
 all_kept [] all = refl
@@ -44,15 +47,16 @@ tables_kept : (ts : List Table) → list_all has_tree (tables_told ts) ≡ true
 tables_kept [] = refl
 tables_kept (t ∷ ts) = indexes_kept t t.indexes (tables_told ts) (tables_kept ts)
 
-no_view : (vs : List View) → filter has_tree (map ViewTold vs) ≡ []
-no_view [] = refl
-no_view (v ∷ vs) = no_view vs
+none_treeless : (vs : List View) (gs : List Trigger) → filter has_tree (map ViewTold vs ++ map TriggerTold gs) ≡ []
+none_treeless [] [] = refl
+none_treeless [] (g ∷ gs) = none_treeless [] gs
+none_treeless (v ∷ vs) gs = none_treeless vs gs
 
 with_trees : (l : Listed) → filter has_tree (parts_of l) ≡ table_parts l.tables
 with_trees l =
     ap (filter has_tree) (parts_are l)
-    ∙ (filter_append has_tree (table_parts l.tables) (map ViewTold l.views)
-    ∙ (ap (λ ls. filter has_tree (table_parts l.tables) ++ ls) (no_view l.views)
+    ∙ (filter_append has_tree (table_parts l.tables) (treeless_told l)
+    ∙ (ap (λ ls. filter has_tree (table_parts l.tables) ++ ls) (none_treeless l.views l.triggers)
     ∙ (append-nil (filter has_tree (table_parts l.tables)) ∙ all_kept (tables_told l.tables) (tables_kept l.tables))))
 
 -- the same tables, in whatever order, each with the same indexes, in whatever order
@@ -87,11 +91,13 @@ abbrev autos : Told → ℕ
 autos (TableTold t) = 0
 autos (IndexTold t i) = cond i.is_automatic 1 0
 autos (ViewTold v) = 0
+autos (TriggerTold g) = 0
 
 abbrev keys : Told → ℕ
 keys (TableTold t) = length t.keys
 keys (IndexTold t i) = 0
 keys (ViewTold v) = 0
+keys (TriggerTold g) = 0
 
 autos_in : (t : Table) (is : List Index) → total autos (map (λ (i : Index). IndexTold (bare t) i) is) ≡ length (filter (λ (i : Index). i.is_automatic) is)
 autos_in t [] = refl
@@ -174,4 +180,4 @@ tables_keys tables others alike apart has =
 -- tables that are alike have as many automatic indexes as keys, if each of the others has those that its keys ask for
 pub alike_keys : (l others : Listed) → AreAlike l others → AreApart (all_told l) → AllByRecursion HasKeyIndexes l.tables → list_all has_all_keys others.tables ≡ true
 alike_keys l others alike apart has =
-    tables_keys l.tables others.tables (tables_alike l others alike) (apart_first (tables_told l.tables) (map ViewTold l.views) apart) has
+    tables_keys l.tables others.tables (tables_alike l others alike) (apart_first (tables_told l.tables) (treeless_told l) apart) has

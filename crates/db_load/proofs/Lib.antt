@@ -6,12 +6,14 @@ pub mod KeyColumns
 pub mod KeyIndexes
 pub mod KeyRows
 pub mod KeyTotals
+pub mod ListedTables
 pub mod LoadedUses
 pub mod MarkedUses
 pub mod PagesThere
 pub mod RowPasses
 pub mod RowsByRoot
 pub mod RowsFound
+pub mod SchemaRows
 pub mod SchemaTables
 pub mod StoredUses
 pub mod TableChecks
@@ -19,4 +21,6 @@ pub mod ToldAdded
 pub mod ToldIndexes
 pub mod ToldParts
 pub mod TreeTables
+pub mod TreelessRows
+pub mod TriggerTargets
 pub mod WholePages

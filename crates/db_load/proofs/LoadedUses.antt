@@ -42,13 +42,13 @@ module _ (map : PageMap) (size pages : ℕ) (header : Header) (whole : AreWhole 
   pub schema_refused : (new : List Bool) (fault : Fault) (result : Result Catalog Fault) → IsErrAnd result (λ e. e ≡ fault) → LoadsTree map size pages (Err fault) → LoadsUses map size header old new result
   schema_refused new fault result is loads =
       uses_refused map size header old new fault result is
-      (λ l uses are free. loads l uses.schema uses.schema_used whole are.tree (rows_in map pages l uses sized are.tell) are.once are.keys)
+      (λ l uses are free. loads l uses.schema uses.schema_used whole are.tree (rows_in map pages l uses sized are.tell) are.once are.keys are.targets)
 
   module _ (catalog : Catalog) (same_tree : MarksTree map size 1 old mid) (loads : LoadsTree map size pages (Ok catalog)) where
     -- the trees of the catalog's tables, which are alike
     owned : (l : Listed) (uses : Uses) → AreUses map size header l uses → AreUnmarked old (pages_used uses) → HaveSamePages map size (tables_of catalog) uses.held
     owned l uses are free =
-        same_trees map size l (listed_in catalog) uses.held (loads l uses.schema uses.schema_used whole are.tree (rows_in map pages l uses sized are.tell) are.once are.keys) are.each
+        same_trees map size l (listed_in catalog) uses.held (loads l uses.schema uses.schema_used whole are.tree (rows_in map pages l uses sized are.tell) are.once are.keys are.targets) are.each
         (λ n. let u = free n in let a = occurs_append n uses.schema_used (others_in uses) in let b = occurs_append n (pages_held uses.held) (pages_of uses.trunks) in omega (arith, u, a, b))
 
     tree_marked : (l : Listed) (uses : Uses) → AreUses map size header l uses → AreUnmarked old (pages_used uses) → Marks old mid uses.schema_used
@@ -100,7 +100,7 @@ module _ (map : PageMap) (size pages : ℕ) (header : Header) (whole : AreWhole 
           record {
             marked = record {
               it = uses;
-              is = record { tree = tree.tree; tell = subst (λ (n : ℕ). AreRowsOf n (listed_in catalog) tree.rows) sized told.0; once = told.1; keys = told.2; each = check.0.is; listed = list.listed };
+              is = record { tree = tree.tree; tell = subst (λ (n : ℕ). AreRowsOf n (listed_in catalog) tree.rows) sized told.0; once = told.1; keys = told.2; targets = told.3; each = check.0.is; listed = list.listed };
               marks = marked tree.used uses tree.marks check.0.marks list.marks;
             };
             same = λ l others are free.

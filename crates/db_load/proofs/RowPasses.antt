@@ -1,135 +1,26 @@
--- The pass over the rows of tables and views, and that over the rows of indexes: what is listed where so many rows were read, of rows that tell
--- what is listed.
-use Rattle.std.proofs.Common.{◌≡◌, ◌∙◌, ◌⊎◌, inl, inr, refl, sym, ap, subst, ℕ, Bool, true, false, not, ◌||◌, cond, List, [], ◌∷◌, ◌++◌, map, filter, Some}
-use Rattle.std.specs.Prelude.{⊤}
+-- The pass over the rows of tables, views and triggers, and that over the rows of indexes: what is listed where so many rows were read, of rows
+-- that tell what is listed.
+use Rattle.std.proofs.Common.{◌≡◌, ◌∙◌, refl, sym, ap, subst, ℕ, Bool, true, false, not, cond, List, [], ◌∷◌, ◌++◌, map, filter}
 use Rattle.std.specs.List.{AllByRecursion, list_any}
-use Rattle.std.proofs.lemmas.Bool.{false≢true}
 use Rattle.std.proofs.lemmas.List.{append-nil, append_assoc}
 use Rattle.tree_leaf.specs.Leaf.{Entry}
 use Rattle.tree_page.specs.Cells.{Pairwise}
 use Rattle.sqlval.specs.Lists.{any_twice}
-use Rattle.sqlval.specs.Names.{folded, is_same_name}
-use Rattle.catalog.specs.Database.{Name}
-use Rattle.catalog.specs.Listed.{Listed, is_name_of, is_table, table_named}
+use Rattle.sqlval.specs.Names.{is_same_name}
+use Rattle.catalog.specs.Listed.{Listed, is_name_of}
 use Rattle.catalog.specs.declared.tables.Index.{Index}
 use Rattle.catalog.specs.declared.tables.Table.{Table}
-use Rattle.catalog.specs.declared.tables.View.{View}
 use Rattle.db_pages.specs.Reordering.{AreReordered}
 use Rattle.query_names.specs.Bound.{is_twice_named}
-use Rattle.db_pages.specs.Schema.{AreRowsOf, IndexTold, TableTold, Tells, Told, ViewTold, all_told, tables_told}
+use Rattle.db_pages.specs.Schema.{AreRowsOf, IndexTold, TableTold, Tells, Told, TriggerTold, ViewTold, all_told, tables_told}
 use Rattle.db_load.specs.Loading.{bare}
 use Rattle.db_load.specs.Reading.{AddsOf, AddsTold, AreAlike, AreIndexed, AreSound, CanAdd, IsLoading, StandsIn, bare_told, is_of_pass, listed_by, name_told, parts_of}
 use Rattle.db_pages.proofs.Reordering.{all_reordered, is_reordered, reordered_all, reordered_both, reordered_front, reordered_is, reordered_map, reordered_parts, reordered_refl, reordered_sym, reordered_trans}
-use Rattle.db_load.proofs.Items.{all_among, all_both, all_front, among_apart, among_filter, among_first, among_map, among_middle, among_reordered, among_second, filter_middle, filter_none, filter_one, reordered_filter, to_front}
+use Rattle.db_load.proofs.Items.{all_among, all_both, all_front, among_filter, among_first, among_map, among_middle, among_reordered, filter_middle, filter_none, filter_one, reordered_filter, to_front}
 use Rattle.db_load.proofs.KeyIndexes.{CanComeDue, told_due}
+use Rattle.db_load.proofs.ListedTables.{table_among, table_listed}
 use Rattle.db_load.proofs.ToldAdded.{index_parts, parts_more}
-use Rattle.db_load.proofs.ToldParts.{AreApart, HasOwnColumns, apart_bare, apart_first, apart_more, apart_named, apart_reordered, bare_apart, bare_names, columns_bare, is_named, map_append, named_apart, names_told, neither, none_first, not_taken, of_tables, parts_are, table_parts}
-
--- ---- the table of an index is told too
-
-abbrev HasTable : List Told → Told → Type 0
-HasTable all (TableTold t) = ⊤
-HasTable all (IndexTold t i) = StandsIn (TableTold t) all
-HasTable all (ViewTold v) = ⊤
-
-indexes_have : (all : List Told) (t : Table) (is : List Index) → StandsIn (TableTold t) all → AllByRecursion (HasTable all) (map (λ (i : Index). IndexTold t i) is)
-indexes_have all t [] is_there = tt
-indexes_have all t (i ∷ is) is_there = (is_there, indexes_have all t is is_there)
-
-told_have : (all : List Told) (ts : List Table) → ((t : Table) → StandsIn (TableTold t) (tables_told ts) → StandsIn (TableTold t) all) → AllByRecursion (HasTable all) (tables_told ts)
-told_have all [] there = tt
-told_have all (t ∷ ts) there = (
-  tt,
-  all_both (HasTable all) (map (λ (i : Index). IndexTold t i) t.indexes) (tables_told ts) (indexes_have all t t.indexes (there t (inl refl)))
-      (told_have all ts (λ u is. there u (inr (among_second (TableTold u) (map (λ (i : Index). IndexTold t i) t.indexes) (tables_told ts) is)))),
-)
-
-views_have : (all : List Told) (vs : List View) → AllByRecursion (HasTable all) (map ViewTold vs)
-views_have all [] = tt
-views_have all (v ∷ vs) = (tt, views_have all vs)
-
-listed_have : (all : List Told) (l : Listed) → ((t : Table) → StandsIn (TableTold t) (all_told l) → StandsIn (TableTold t) all) → AllByRecursion (HasTable all) (all_told l)
-listed_have all l there =
-    all_both (HasTable all) (tables_told l.tables) (map ViewTold l.views) (told_have all l.tables (λ t is. there t (among_first (TableTold t) (tables_told l.tables) (map ViewTold l.views) is)))
-    (views_have all l.views)
-
-pub table_among : (l : Listed) (told : List Told) (t : Table) (i : Index) → AreReordered told (all_told l) → StandsIn (IndexTold t i) told → StandsIn (TableTold t) told
-table_among l told t i h is =
-    all_among (HasTable told) (IndexTold t i) told
-    (reordered_all (HasTable told) told (all_told l) h (listed_have told l (λ u there. among_reordered (TableTold u) (all_told l) told (reordered_sym told (all_told l) h) there))) is
-
--- ---- a listed table
-
-no_index : {B : Type 0} (b t : Table) (i : Index) → IndexTold t i ≡ TableTold b → B
-no_index b t i h = absurd cc
-
-not_among_indexes : {B : Type 0} (b t : Table) (is : List Index) → StandsIn (TableTold b) (map (λ (i : Index). IndexTold t i) is) → B
-not_among_indexes b t [] is_there = absurd is_there
-not_among_indexes b t (i ∷ is) (inl same) = no_index b t i same
-not_among_indexes b t (i ∷ is) (inr later) = not_among_indexes b t is later
-
-the_table : (t u : Table) → TableTold t ≡ TableTold u → t ≡ u
-the_table t u h = cc
-
--- an item has one of the names
-name_among : (x : Told) (xs : List Told) (n : Name) → is_same_name n (name_told x) ≡ true → StandsIn x xs → list_any (is_same_name n) (names_told xs) ≡ true
-name_among x [] n same is = absurd is
-name_among x (y ∷ xs) n same (inl e) = ap (λ b. b || list_any (is_same_name n) (names_told xs)) (ap (λ (z : Told). is_same_name n (name_told z)) e ∙ same)
-name_among x (y ∷ xs) n same (inr later) = ap (λ b. is_same_name n (name_told y) || b) (name_among x xs n same later) ∙ or_true (is_same_name n (name_told y))
-  where
-    or_true : (b : Bool) → (b || true) ≡ true
-    or_true true = refl
-    or_true false = refl
-
-pub record IsListed (tables : List Table) (b : Table) : Type 0 where
-  pub other : Table
-  pub listed : table_named b.name tables ≡ Some other
-  pub alike : bare other ≡ b
-
--- a table that is told beside items of other names is found under its name
-listed_table : (ts : List Table) (b : Table) → AreApart (table_parts ts) → StandsIn (TableTold b) (table_parts ts) → IsListed ts b
-listed_table [] b apart is = absurd is
-listed_table (u ∷ us) b apart is =
-    by_test (is_table b.name u) refl (listed_table us b (apart_more (index_parts u) (table_parts us) both.1))
-    (subst (StandsIn (TableTold b)) (parts_more u us) is)
-  where
-    rest : List Told
-    rest = index_parts u ++ table_parts us
-
-    both : (list_any (is_same_name u.name) (names_told (index_parts u ++ table_parts us)) ≡ false) × (any_twice is_same_name (names_told (index_parts u ++ table_parts us)) ≡ false)
-    both = neither (list_any (is_same_name u.name) (names_told rest)) (any_twice is_same_name (names_told rest)) (subst AreApart (parts_more u us) apart)
-
-    by_test : (c : Bool) → is_table b.name u ≡ c → (StandsIn (TableTold b) (table_parts us) → IsListed us b) → (TableTold (bare u) ≡ TableTold b) ⊎ StandsIn (TableTold b) (index_parts u ++ table_parts us)
-        → IsListed (u ∷ us) b
-    by_test true e later (inl same) = record {
-      other = u;
-      listed = ap (λ (c : Bool). cond c (Some u) (table_named b.name us)) e;
-      alike = the_table (bare u) b same;
-    }
-    by_test true e later (inr is) = absurd (false≢true (sym both.0 ∙ name_among (TableTold b) rest u.name e is))
-    by_test false e later (inl same) =
-        let at : u.name ≡ b.name = ap (λ (t : Table). t.name) (the_table (bare u) b same) in
-        absurd (false≢true (sym e ∙ is_named u.name b.name (ap folded (sym at))))
-    by_test false e later (inr is) =
-        let found = later (among_apart (TableTold b) (index_parts u) (table_parts us) (λ there. not_among_indexes b (bare u) u.indexes there) (λ there. there) is) in record {
-          other = found.other;
-          listed = ap (λ (c : Bool). cond c (Some u) (table_named b.name us)) e ∙ found.listed;
-          alike = found.alike;
-        }
-
-no_view : {B : Type 0} (b : Table) (v : View) → ViewTold v ≡ TableTold b → B
-no_view b v h = absurd cc
-
-not_among_views : {B : Type 0} (b : Table) (vs : List View) → StandsIn (TableTold b) (map ViewTold vs) → B
-not_among_views b [] is = absurd is
-not_among_views b (v ∷ vs) (inl same) = no_view b v same
-not_among_views b (v ∷ vs) (inr later) = not_among_views b vs later
-
--- and so is one beside views
-pub table_listed : (l : Listed) (b : Table) → AreApart (parts_of l) → StandsIn (TableTold b) (parts_of l) → IsListed l.tables b
-table_listed l b apart is =
-    listed_table l.tables b (apart_first (table_parts l.tables) (map ViewTold l.views) (subst AreApart (parts_are l) apart))
-    (among_apart (TableTold b) (table_parts l.tables) (map ViewTold l.views) (λ there. there) (λ there. not_among_views b l.views there) (subst (StandsIn (TableTold b)) (parts_are l) is))
+use Rattle.db_load.proofs.ToldParts.{AreApart, HasOwnColumns, apart_bare, apart_first, apart_named, apart_reordered, bare_apart, bare_names, columns_bare, map_append, named_apart, names_told, neither, none_first, not_taken, of_tables, table_parts, treeless_all, treeless_told}
 
 -- ---- what is listed, and what isn't yet
 
@@ -138,6 +29,7 @@ pub other_pass : (x : Told) → is_of_pass false x ≡ not (is_of_pass true x)
 other_pass (TableTold t) = refl
 other_pass (IndexTold t i) = refl
 other_pass (ViewTold v) = refl
+other_pass (TriggerTold g) = refl
 
 others_same : (xs : List Told) → filter (λ x. not (is_of_pass true x)) xs ≡ filter (is_of_pass false) xs
 others_same [] = refl
@@ -145,7 +37,7 @@ others_same (x ∷ xs) =
     ap (λ (b : Bool). cond b (x ∷ filter (λ x. not (is_of_pass true x)) xs) (filter (λ x. not (is_of_pass true x)) xs)) (sym (other_pass x))
     ∙ ap (λ (ls : List Told). cond (is_of_pass false x) (x ∷ ls) ls) (others_same xs)
 
--- the tables and views, and then the indexes
+-- those of the first pass, and then the indexes
 pub passes_apart : (xs : List Told) → AreReordered xs (filter (is_of_pass true) xs ++ filter (is_of_pass false) xs)
 passes_apart xs =
     reordered_is xs (filter (is_of_pass true) xs ++ filter (λ x. not (is_of_pass true x)) xs) (filter (is_of_pass true) xs ++ filter (is_of_pass false) xs)
@@ -196,7 +88,7 @@ index_parted before rest t i = record {
 
 -- tables whose columns have different names, as items
 pub own_columns : (l : Listed) → AllByRecursion (λ (t : Table). is_twice_named t.columns ≡ false) l.tables → AllByRecursion HasOwnColumns (all_told l)
-own_columns l all = all_both HasOwnColumns (tables_told l.tables) (map ViewTold l.views) (for_tables l.tables all) (for_views l.views)
+own_columns l all = all_both HasOwnColumns (tables_told l.tables) (treeless_told l) (for_tables l.tables all) (treeless_all HasOwnColumns l (λ v. tt) (λ g. tt))
   where
     for_indexes : (t : Table) (is : List Index) → AllByRecursion HasOwnColumns (map (λ (i : Index). IndexTold t i) is)
     for_indexes t [] = tt
@@ -205,10 +97,6 @@ own_columns l all = all_both HasOwnColumns (tables_told l.tables) (map ViewTold 
     for_tables : (ts : List Table) → AllByRecursion (λ (t : Table). is_twice_named t.columns ≡ false) ts → AllByRecursion HasOwnColumns (tables_told ts)
     for_tables [] all = tt
     for_tables (t ∷ ts) all = (all.0, all_both HasOwnColumns (map (λ (i : Index). IndexTold t i) t.indexes) (tables_told ts) (for_indexes t t.indexes) (for_tables ts all.1))
-
-    for_views : (vs : List View) → AllByRecursion HasOwnColumns (map ViewTold vs)
-    for_views [] = tt
-    for_views (v ∷ vs) = (tt, for_views vs)
 
 -- and the other way about
 pub columns_own : (l : Listed) → AllByRecursion HasOwnColumns (parts_of l) → AllByRecursion (λ (t : Table). is_twice_named t.columns ≡ false) l.tables
@@ -337,6 +225,7 @@ next_told true pages l row left now before rest (IndexTold t i) indexed all tell
   goes_on = λ new same. on_same true pages l before rest (IndexTold t i) left now all each new (filter_none (is_of_pass true) before (IndexTold t i) refl) listed same;
 }
 next_told true pages l row left now before rest (ViewTold v) indexed all tells each listed = first_told pages l row left now before rest (ViewTold v) refl indexed all tells each listed (λ both. both) (λ new adds. adds)
+next_told true pages l row left now before rest (TriggerTold g) indexed all tells each listed = first_told pages l row left now before rest (TriggerTold g) refl indexed all tells each listed (λ both. both) (λ new adds. adds)
 next_told false pages l row left now before rest (TableTold t) indexed all tells each listed = record {
   item = TableTold t;
   tells = tells;
@@ -348,6 +237,12 @@ next_told false pages l row left now before rest (ViewTold v) indexed all tells 
   tells = tells;
   can = tt;
   goes_on = λ new same. on_same false pages l before rest (ViewTold v) left now all each new (no_more before rest (ViewTold v) refl) listed same;
+}
+next_told false pages l row left now before rest (TriggerTold g) indexed all tells each listed = record {
+  item = TriggerTold g;
+  tells = tells;
+  can = tt;
+  goes_on = λ new same. on_same false pages l before rest (TriggerTold g) left now all each new (no_more before rest (TriggerTold g) refl) listed same;
 }
 next_told false pages l row left now before rest (IndexTold t i) indexed all tells each listed =
     let x : Told = IndexTold t i in
@@ -389,7 +284,7 @@ row_comes first pages l row whole left now indexed is so_far =
 -- ---- whole passes
 
 -- before the first pass
-pub first_begins : (pages : ℕ) (l : Listed) (rows : List Entry) (now : Listed) → now ≡ record { tables = []; views = [] } → AreRowsOf pages l rows → IsLoading true pages l rows now
+pub first_begins : (pages : ℕ) (l : Listed) (rows : List Entry) (now : Listed) → now ≡ record { tables = []; views = []; triggers = [] } → AreRowsOf pages l rows → IsLoading true pages l rows now
 first_begins pages l rows now none tell = record {
   before = [];
   rest = tell.told;

@@ -1,4 +1,4 @@
--- The pass over the rows of tables and views, and that over the rows of indexes: what was listed is what the rows tell.
+-- The pass over the rows of tables, views and triggers, and that over the rows of indexes: what was listed is what the rows tell.
 use Rattle.std.proofs.Common.{◌≡◌, ◌∙◌, ◌⊎◌, inl, inr, refl, sym, ap, subst, ℕ, Bool, true, false, not, List, [], ◌∷◌, ◌++◌, map, Option, Some, None, arith}
 use Rattle.std.specs.List.{AllByRecursion}
 use Rattle.std.proofs.lemmas.Bool.{false≢true}
@@ -12,7 +12,7 @@ use Rattle.catalog.specs.Listed.{Listed, are_named_once}
 use Rattle.catalog.specs.declared.tables.Table.{Table}
 use Rattle.db_pages.specs.Reordering.{AreReordered}
 use Rattle.query_names.specs.Bound.{AreOnce, is_twice_named}
-use Rattle.db_pages.specs.Schema.{AreRowsOf, IndexTold, TableTold, Tells, Told, ViewTold, all_told}
+use Rattle.db_pages.specs.Schema.{AreRowsOf, IndexTold, TableTold, Tells, Told, TriggerTold, ViewTold, all_told}
 use Rattle.db_load.specs.Loading.{kind_text}
 use Rattle.db_load.specs.declared.schema.SchemaKind.{SchemaKind}
 use Rattle.db_load.specs.declared.schema.SchemaKind.TheVariants as kind
@@ -30,6 +30,7 @@ pub told_columns : (pages : ℕ) (x : Told) (row : Entry) → Tells pages x row 
 told_columns pages (TableTold t) row tells = columns_differ tells.definition.columns t.columns tells.makes.once tells.makes.columns
 told_columns pages (IndexTold t i) row tells = tt
 told_columns pages (ViewTold v) row tells = tt
+told_columns pages (TriggerTold g) row tells = tt
 
 all_columns : (pages : ℕ) (told : List Told) (rows : List Entry) → Pairwise (Tells pages) told rows → AllByRecursion HasOwnColumns told
 all_columns pages [] rows each = tt
@@ -86,6 +87,7 @@ bare_tells pages (IndexTold t i) row (inl tells) = inl (record {
 })
 bare_tells pages (IndexTold t i) row (inr tells) = inr (record { automatic = tells.automatic; rowid_is = tells.rowid_is; row_is = tells.row_is })
 bare_tells pages (ViewTold v) row tells = tells
+bare_tells pages (TriggerTold g) row tells = tells
 
 tells_bare : (pages : ℕ) (x : Told) (row : Entry) → Tells pages x row → Tells pages (bare_told x) row
 tells_bare pages (TableTold t) row tells = record {
@@ -121,6 +123,7 @@ tells_bare pages (IndexTold t i) row (inl tells) = inl (record {
 })
 tells_bare pages (IndexTold t i) row (inr tells) = inr (record { automatic = tells.automatic; rowid_is = tells.rowid_is; row_is = tells.row_is })
 tells_bare pages (ViewTold v) row tells = tells
+tells_bare pages (TriggerTold g) row tells = tells
 
 all_bare : (pages : ℕ) (told : List Told) (rows : List Entry) → Pairwise (Tells pages) told rows → Pairwise (Tells pages) (map bare_told told) rows
 all_bare pages [] [] each = tt
@@ -281,9 +284,11 @@ flags b one other = absurd (false≢true (sym other ∙ one))
 kinds_apart : {B : Type 0} (a b : SchemaKind) (rest others : List Value) → is_kind_first a ≡ true → is_kind_first b ≡ false → Text (kind_text a) ∷ rest ≡ Text (kind_text b) ∷ others → B
 kinds_apart kind.Table kind.Index rest others first second h = not_both 116 105 _ _ rest others (λ e. omega (arith, e)) h
 kinds_apart kind.View kind.Index rest others first second h = not_both 118 105 _ _ rest others (λ e. omega (arith, e)) h
+kinds_apart kind.Trigger kind.Index rest others first second h = not_both 116 105 _ _ rest others (λ e. omega (arith, e)) h
 kinds_apart kind.Index b rest others first second h = flags false first refl
 kinds_apart a kind.Table rest others first second h = flags true refl second
 kinds_apart a kind.View rest others first second h = flags true refl second
+kinds_apart a kind.Trigger rest others first second h = flags true refl second
 
 one_pass : {B : Type 0} → DetermineValues → (row : Entry) → IsKind true row → IsKind false row → B
 one_pass one row (a, first, rest, is) (b, second, others, also) =
@@ -295,6 +300,7 @@ row_kind pages (TableTold t) row is = (kind.Table, refl, _, is.row_is.row_is)
 row_kind pages (IndexTold t i) row (inl is) = (kind.Index, refl, _, is.row_is.row_is)
 row_kind pages (IndexTold t i) row (inr is) = (kind.Index, refl, _, is.row_is.row_is)
 row_kind pages (ViewTold v) row is = (kind.View, refl, _, is.row_is)
+row_kind pages (TriggerTold g) row is = (kind.Trigger, refl, _, is.row_is)
 
 pub record AreSaid (pages : ℕ) (first second : List Told) (rows : List Entry) : Type 0 where
   pub told : List Told
@@ -331,7 +337,7 @@ both_said one pages (Some x ∷ first) (Some y ∷ second) (row ∷ rows) each a
     is_other true h = absurd (false≢true h)
     is_other false h = refl
 
-none_sound : AreSound (record { tables = []; views = [] })
+none_sound : AreSound (record { tables = []; views = []; triggers = [] })
 none_sound = record { columns = tt; named = refl }
 
 bare_due : (items : List Told) → AllByRecursion IsDueTold items → AllByRecursion IsDueTold (map bare_told items)
@@ -339,6 +345,7 @@ bare_due [] all = tt
 bare_due (TableTold t ∷ items) all = (tt, bare_due items all.1)
 bare_due (IndexTold t i ∷ items) all = (all.0, bare_due items all.1)
 bare_due (ViewTold v ∷ items) all = (tt, bare_due items all.1)
+bare_due (TriggerTold g ∷ items) all = (tt, bare_due items all.1)
 
 -- what a pass listed is such as keys ask for, where what was listed before is
 pub due_after : (first : Bool) (pages : ℕ) (rows : List Entry) (old new : Listed) → HasFound first pages rows old new → AllByRecursion IsDueTold (parts_of old) → AllByRecursion IsDueTold (parts_of new)
@@ -346,7 +353,7 @@ due_after first pages rows old new has before =
     all_reordered IsDueTold (map bare_told (somes has.said) ++ parts_of old) (parts_of new) has.more (all_both IsDueTold (map bare_told (somes has.said)) (parts_of old) (bare_due (somes has.said) has.due) before)
 
 -- what the passes listed is what the rows tell
-pub rows_tell : DetermineValues → (pages : ℕ) (rows : List Entry) (none mid new : Listed) → none ≡ record { tables = []; views = [] } → Finds true pages rows none mid → Finds false pages rows mid new
+pub rows_tell : DetermineValues → (pages : ℕ) (rows : List Entry) (none mid new : Listed) → none ≡ record { tables = []; views = []; triggers = [] } → Finds true pages rows none mid → Finds false pages rows mid new
     → AreRowsOf pages new rows × (are_named_once new ≡ true) × AreAllDue new.tables
 rows_tell one pages rows none mid new empty finds finds_more =
     let first = has_found true pages rows none mid (subst AreSound (sym empty) none_sound) finds in

@@ -1,5 +1,5 @@
 -- The uses of the pages of a database, and the database of pages that are used so.
-use Rattle.std.proofs.Common.{◌≡◌, ◌≤◌, ◌+◌, ◌∙◌, refl, sym, subst, ℕ, true, List, [], ◌∷◌, ◌++◌, length, Ok, Err, arith}
+use Rattle.std.proofs.Common.{◌≡◌, ◌≤◌, ◌+◌, ◌∙◌, refl, sym, subst, ℕ, List, [], ◌∷◌, ◌++◌, length, Ok, Err, arith}
 use Rattle.std.specs.Prelude.{⊤, Result, IfErr, IfOk, MatchOption}
 use Rattle.std.proofs.lemmas.Bool.Decides.{nat_tests}
 use Rattle.sqlval.specs.Faults.{IsOutside}
@@ -13,7 +13,7 @@ use Rattle.pages.specs.Map.{PageMap, AreWhole, Has, IsThere, page_at}
 use Rattle.freelist.specs.Freelist.{IsFreelist, pages_of}
 use Rattle.tree_store.proofs.Staying.{occurs_both}
 use Rattle.catalog.specs.Database.{Database}
-use Rattle.catalog.specs.Listed.{Listed, Lists, has_no_trigger, listed_in, tables_of}
+use Rattle.catalog.specs.Listed.{Listed, Lists, listed_in, tables_of}
 use Rattle.catalog.specs.Named.{IsNamed, ListedDatabase}
 use Rattle.catalog.specs.declared.tables.Catalog.{Catalog}
 use Rattle.catalog.specs.declared.tables.Table.{Table}
@@ -64,6 +64,7 @@ module _ (m : PageMap) (size : ℕ) (l : Listed) (db : Database) (held : Stores 
         tell = held.tell;
         once = held.of_listed.once;
         keys = held.keys;
+        targets = held.targets;
         each = trees_have m size held.rows_at l.tables held.held held.each held.shared.trees.1;
         listed = subst (λ (h : Header). IsFreelist m size h.freelist_trunk h.freelist_count has.trunks) same has.listed;
       }
@@ -88,9 +89,10 @@ found_database listed m size header catalog whole first all = record {
   database = db.0;
   stored = record {
     rows_at = rows_at;
-    of_listed = record { lists = db.3; quiet = db.2; named = db.1; once = all.are.once };
+    of_listed = record { lists = db.2; named = db.1; once = all.are.once };
     once = rows_once (length m) (listed_in catalog) all.uses.schema all.are.tell;
     keys = all.are.keys;
+    targets = all.are.targets;
     header = header;
     header_is = first.header_is;
     sized = first.sized;
@@ -119,7 +121,7 @@ found_database listed m size header catalog whole first all = record {
     rows_at : ℕ → List TableRow
     rows_at = rows_in m size (tables_of catalog) all.uses.held all.are.each
 
-    db : (db : Database) × IsNamed db × (has_no_trigger db ≡ true) × Lists (rows_in m size (tables_of catalog) all.uses.held all.are.each) (listed_in catalog) db
+    db : (db : Database) × IsNamed db × Lists (rows_in m size (tables_of catalog) all.uses.held all.are.each) (listed_in catalog) db
     db = listed (rows_in m size (tables_of catalog) all.uses.held all.are.each) (listed_in catalog)
 
     sum : (n : ℕ) → occurs n (pages_used all.uses) ≡ occurs n all.uses.schema_used + (occurs n (pages_held all.uses.held) + occurs n (pages_of all.uses.trunks))

@@ -7,17 +7,18 @@ use Rattle.std.proofs.lemmas.List.{append-nil, append_assoc}
 use Rattle.sqlval.specs.Lists.{any_twice}
 use Rattle.sqlval.specs.Names.{folded, is_same_name}
 use Rattle.catalog.specs.Database.{Name}
-use Rattle.catalog.specs.Listed.{Listed, are_named_once, is_name_of, is_table, names_of, table_named, with_replaced}
+use Rattle.catalog.specs.Listed.{Listed, are_named_once, is_name_of, is_table, names_of, table_named, treeless_names, with_replaced}
 use Rattle.catalog.specs.NewIndexes.{replacing, with_index}
 use Rattle.catalog.specs.declared.tables.Index.{Index}
 use Rattle.catalog.specs.declared.tables.Table.{Table}
+use Rattle.catalog.specs.declared.tables.Trigger.{Trigger}
 use Rattle.catalog.specs.declared.tables.View.{View}
 use Rattle.db_pages.specs.Reordering.{AreReordered}
-use Rattle.db_pages.specs.Schema.{IndexTold, TableTold, Told, ViewTold, all_told, tables_told}
+use Rattle.db_pages.specs.Schema.{IndexTold, TableTold, Told, TriggerTold, ViewTold, all_told, tables_told}
 use Rattle.db_load.specs.Loading.{bare}
 use Rattle.db_load.specs.Reading.{AddsTold, IsGrown, bare_told, parts_of}
 use Rattle.db_pages.proofs.Reordering.{is_reordered, reordered_both, reordered_is, reordered_refl, reordered_trans}
-use Rattle.db_load.proofs.ToldParts.{is_folded, is_named, map_append, named_apart, names_told, neither, parts_are, same_turned, table_parts, told_names, reordered_twice}
+use Rattle.db_load.proofs.ToldParts.{is_folded, is_named, map_append, named_apart, names_told, neither, parts_are, same_turned, table_parts, told_names, treeless_told, reordered_twice}
 
 -- ---- parts
 
@@ -42,16 +43,16 @@ parts_both (t ∷ ts) us =
     ∙ (ap (λ ls. TableTold (bare t) ∷ ls) (sym (append_assoc (index_parts t) (table_parts ts) (table_parts us)))
     ∙ ap (λ ls. ls ++ table_parts us) (sym (parts_more t ts))))
 
--- other tables are listed beside the same views
+-- other tables are listed beside the same views and triggers
 with_tables : (x : Told) (old new : Listed) → new ≡ record old { tables = new.tables } → AreReordered (x ∷ table_parts old.tables) (table_parts new.tables) → AreReordered (x ∷ parts_of old) (parts_of new)
 with_tables x old new same h =
-    is_reordered (x ∷ (table_parts old.tables ++ views)) (x ∷ parts_of old) (parts_of new) (ap (λ ls. x ∷ ls) (sym (parts_are old)))
-    (reordered_is (x ∷ (table_parts old.tables ++ views)) (table_parts new.tables ++ views) (parts_of new)
-    (sym (parts_are new ∙ ap (λ (l : Listed). table_parts new.tables ++ map ViewTold l.views) same))
-    (reordered_both (x ∷ table_parts old.tables) (table_parts new.tables) views views h (reordered_refl views)))
+    is_reordered (x ∷ (table_parts old.tables ++ treeless)) (x ∷ parts_of old) (parts_of new) (ap (λ ls. x ∷ ls) (sym (parts_are old)))
+    (reordered_is (x ∷ (table_parts old.tables ++ treeless)) (table_parts new.tables ++ treeless) (parts_of new)
+    (sym (parts_are new ∙ ap (λ (l : Listed). table_parts new.tables ++ treeless_told l) same))
+    (reordered_both (x ∷ table_parts old.tables) (table_parts new.tables) treeless treeless h (reordered_refl treeless)))
   where
-    views : List Told
-    views = map ViewTold old.views
+    treeless : List Told
+    treeless = treeless_told old
 
 -- ---- a table
 
@@ -77,15 +78,15 @@ table_adds t found old new none alike fresh is = record {
     there =
         sym (ap table_parts tables ∙ (parts_both old.tables (found ∷ []) ∙ (ap (λ ls. table_parts old.tables ++ ls) (bare_alone found none) ∙ ap (λ (u : Table). table_parts old.tables ++ TableTold u ∷ []) alike)))
 
--- ---- a view
+-- ---- a view, and a trigger
 
--- a view is listed after the others
+-- it stands between the others
+placed_at : (x : Told) (before after : List Told) (old new : Listed) → parts_of old ≡ before ++ after → parts_of new ≡ before ++ x ∷ after → AreReordered (x ∷ parts_of old) (parts_of new)
+placed_at x before after old new are is = (before, after, is, reordered_is (parts_of old) (parts_of old) (before ++ after) are (reordered_refl (parts_of old)))
+
+-- a view is listed after the other views
 pub view_adds : (v : View) (old new : Listed) → is_name_of old v.definition.name ≡ false → new ≡ record old { views = old.views ++ v ∷ [] } → AddsTold (ViewTold v) old new
-view_adds v old new fresh is = record {
-  fresh = fresh;
-  more = is_reordered (ViewTold v ∷ (tables ++ views)) (ViewTold v ∷ parts_of old) (parts_of new) (ap (λ ls. ViewTold v ∷ ls) (sym (parts_are old)))
-      (reordered_is (ViewTold v ∷ (tables ++ views)) ((tables ++ views) ++ ViewTold v ∷ []) (parts_of new) there (last_first (tables ++ views) (ViewTold v)));
-}
+view_adds v old new fresh is = record { fresh = fresh; more = placed_at (ViewTold v) (tables ++ views) triggers old new (parts_are old ∙ sym (append_assoc tables views triggers)) there }
   where
     tables : List Told
     tables = table_parts old.tables
@@ -93,11 +94,35 @@ view_adds v old new fresh is = record {
     views : List Told
     views = map ViewTold old.views
 
-    there : (table_parts old.tables ++ map ViewTold old.views) ++ ViewTold v ∷ [] ≡ parts_of new
+    triggers : List Told
+    triggers = map TriggerTold old.triggers
+
+    there : parts_of new ≡ (tables ++ views) ++ ViewTold v ∷ triggers
     there =
-        append_assoc (table_parts old.tables) (map ViewTold old.views) (ViewTold v ∷ [])
-        ∙ sym (ap parts_of is
-        ∙ (parts_are (record old { views = old.views ++ v ∷ [] }) ∙ ap (λ ls. table_parts old.tables ++ ls) (map_append ViewTold old.views (v ∷ []))))
+        ap parts_of is ∙ parts_are (record old { views = old.views ++ v ∷ [] })
+        ∙ ap (λ ls. tables ++ (ls ++ triggers)) (map_append ViewTold old.views (v ∷ []))
+        ∙ ap (λ ls. tables ++ ls) (append_assoc views (ViewTold v ∷ []) triggers)
+        ∙ sym (append_assoc tables views (ViewTold v ∷ triggers))
+
+-- a trigger is listed after the others
+pub trigger_adds : (g : Trigger) (old new : Listed) → is_name_of old g.definition.name ≡ false → new ≡ record old { triggers = old.triggers ++ g ∷ [] } → AddsTold (TriggerTold g) old new
+trigger_adds g old new fresh is = record { fresh = fresh; more = placed_at (TriggerTold g) (tables ++ treeless_told old) [] old new (parts_are old ∙ sym (append-nil (tables ++ treeless_told old))) there }
+  where
+    tables : List Told
+    tables = table_parts old.tables
+
+    views : List Told
+    views = map ViewTold old.views
+
+    triggers : List Told
+    triggers = map TriggerTold old.triggers
+
+    there : parts_of new ≡ (tables ++ treeless_told old) ++ TriggerTold g ∷ []
+    there =
+        ap parts_of is ∙ parts_are (record old { triggers = old.triggers ++ g ∷ [] })
+        ∙ ap (λ ls. tables ++ (views ++ ls)) (map_append TriggerTold old.triggers (g ∷ []))
+        ∙ ap (λ ls. tables ++ ls) (sym (append_assoc views triggers (TriggerTold g ∷ [])))
+        ∙ sym (append_assoc tables (views ++ triggers) (TriggerTold g ∷ []))
 
 -- ---- an index
 
@@ -117,7 +142,7 @@ once_first (x ∷ xs) ys h =
 
 tables_once : (l : Listed) → are_named_once l ≡ true → any_twice is_same_name (names_alone l.tables) ≡ false
 tables_once l once =
-    once_first (names_alone l.tables) (map (λ (v : View). v.definition.name) l.views ++ flat_map (λ (t : Table). map (λ (i : Index). i.name) t.indexes) l.tables)
+    once_first (names_alone l.tables) (treeless_names l ++ flat_map (λ (t : Table). map (λ (i : Index). i.name) t.indexes) l.tables)
     (sym (reordered_twice (names_told (all_told l)) (names_of l) (told_names l)) ∙ named_apart l once)
 
 -- a name is the same in letters of either case

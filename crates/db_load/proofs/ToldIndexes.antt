@@ -18,7 +18,7 @@ use Rattle.catalog.specs.declared.tables.Table.{Table}
 use Rattle.query_names.specs.Checked.{faults, good}
 use Rattle.query_bind.specs.Indexed.{IsIndexOn, IsIndexRefusal, key_of, keys_known}
 use Rattle.sql_syntax.specs.declared.create.NewObject.TheVariants as new
-use Rattle.db_pages.specs.Schema.{CreatesSupported, IndexTold, IsIndexOf}
+use Rattle.db_pages.specs.Schema.{IndexTold, IsCreateOf, IsIndexOf}
 use Rattle.db_load.specs.Loading.{IsOfIndexRow, TellsIndex, bare, text_of}
 use Rattle.db_load.specs.Reading.{AddsTold, AreSound, CanGrow, FindsParts, GrowsBy, IsGrown}
 use Rattle.db_load.specs.declared.schema.SchemaKind.TheVariants as kind
@@ -144,7 +144,7 @@ pub grown_as_told : (l : Listed) (t u : Table) (i found : Index) (row : SchemaRo
 grown_as_told l t u i found row d (Ok grown) can tells same on name unique automatic root rowid by = is_grown l t u i found row d grown can tells same on name unique automatic root rowid by
 grown_as_told l t u i found row d (Err f) can tells same on name unique automatic root rowid by = by
 
-pub grown_found : (l : Listed) (u : Table) (found : Index) (row : SchemaRow) (d : IndexDefinition) (result : Result Table Fault) (text : List ℕ) → text_of row ≡ Some text → CreatesSupported text (new.Index d) → IsOfIndexRow row d
+pub grown_found : (l : Listed) (u : Table) (found : Index) (row : SchemaRow) (d : IndexDefinition) (result : Result Table Fault) (text : List ℕ) → text_of row ≡ Some text → IsCreateOf text (new.Index d) → IsOfIndexRow row d
     → IsIndexOn l d u found.columns → found.name ≡ d.name → found.is_unique ≡ d.is_unique → found.is_automatic ≡ false → found.root ≡ row.root → found.rowid ≡ row.rowid → IsOrMemory (λ copy. copy ≡ with_index found u) result → IfOk result (GrowsBy l row)
 grown_found l u found row d (Err f) text text_is creates names on name unique automatic root rowid by = tt
 grown_found l u found row d (Ok grown) text text_is creates names on name unique automatic root rowid by = record {

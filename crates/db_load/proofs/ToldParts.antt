@@ -1,5 +1,5 @@
--- What is listed, as parts in any order: the tables, each without its indexes, the indexes, and the views.
-use Rattle.std.proofs.Common.{◌≡◌, ◌∙◌, refl, sym, ap, subst, ℕ, Bool, true, false, not, ◌||◌, cond, List, [], ◌∷◌, ◌++◌, map, Some}
+-- What is listed, as parts in any order: the tables, each without its indexes, the indexes, the views, and the triggers.
+use Rattle.std.proofs.Common.{◌≡◌, ◌∙◌, refl, sym, ap, ap₂, subst, ℕ, Bool, true, false, not, ◌||◌, cond, List, [], ◌∷◌, ◌++◌, map, Some}
 use Rattle.std.specs.Prelude.{⊤, flat_map}
 use Rattle.std.specs.List.{AllByRecursion, find, list_any}
 use Rattle.std.proofs.lemmas.Bool.{false≢true}
@@ -8,13 +8,14 @@ use Rattle.std.proofs.lemmas.Slice.Eq.{bytes_eq-Decides}
 use Rattle.sqlval.specs.Lists.{any_twice}
 use Rattle.sqlval.specs.Names.{folded, is_same_name}
 use Rattle.catalog.specs.Database.{Name}
-use Rattle.catalog.specs.Listed.{Listed, are_named_once, has_index, has_table_name, is_name_of, is_table, is_view, names_of}
+use Rattle.catalog.specs.Listed.{Listed, are_named_once, has_index, has_table_name, is_name_of, is_table, is_trigger, is_view, names_of, treeless_names}
 use Rattle.catalog.specs.declared.tables.Index.{Index}
 use Rattle.catalog.specs.declared.tables.Table.{Table}
+use Rattle.catalog.specs.declared.tables.Trigger.{Trigger}
 use Rattle.catalog.specs.declared.tables.View.{View}
 use Rattle.db_pages.specs.Reordering.{AreReordered}
 use Rattle.query_names.specs.Bound.{AreOnce, is_twice_named}
-use Rattle.db_pages.specs.Schema.{IndexTold, TableTold, Told, ViewTold, all_told, tables_told}
+use Rattle.db_pages.specs.Schema.{IndexTold, TableTold, Told, TriggerTold, ViewTold, all_told, tables_told}
 use Rattle.db_load.specs.Reading.{AddsTold, bare_told, name_told, parts_of}
 use Rattle.db_pages.proofs.Reordering.{is_reordered, reordered_any, reordered_both, reordered_front, reordered_is, reordered_map, reordered_refl, reordered_swapped, reordered_trans}
 
@@ -40,6 +41,24 @@ pub neither : (a b : Bool) → (a || b) ≡ false → (a ≡ false) × (b ≡ fa
 neither true b h = absurd (false≢true (sym h))
 neither false b h = (refl, h)
 
+-- ---- what has no tree
+
+-- the views, and then the triggers
+abbrev pub treeless_told : Listed → List Told
+treeless_told l = map ViewTold l.views ++ map TriggerTold l.triggers
+
+-- what holds of each view and of each trigger
+pub treeless_all : (P : Told → Type 0) (l : Listed) → ((v : View) → P (ViewTold v)) → ((g : Trigger) → P (TriggerTold g)) → AllByRecursion P (treeless_told l)
+treeless_all P l view trigger = of_views l.views
+  where
+    of_triggers : (gs : List Trigger) → AllByRecursion P (map TriggerTold gs)
+    of_triggers [] = tt
+    of_triggers (g ∷ gs) = (trigger g, of_triggers gs)
+
+    of_views : (vs : List View) → AllByRecursion P (map ViewTold vs ++ map TriggerTold l.triggers)
+    of_views [] = of_triggers l.triggers
+    of_views (v ∷ vs) = (view v, of_views vs)
+
 -- ---- names
 
 pub is_named : (a b : List ℕ) → folded b ≡ folded a → is_same_name a b ≡ true
@@ -64,6 +83,7 @@ pub bare_name : (item : Told) → name_told (bare_told item) ≡ name_told item
 bare_name (TableTold t) = refl
 bare_name (IndexTold t i) = refl
 bare_name (ViewTold v) = refl
+bare_name (TriggerTold g) = refl
 
 pub bare_names : (items : List Told) → names_told (map bare_told items) ≡ names_told items
 bare_names [] = refl
@@ -79,6 +99,15 @@ index_names t (i ∷ is) = ap (λ ns. i.name ∷ ns) (index_names t is)
 view_names : (vs : List View) → names_told (map ViewTold vs) ≡ map (λ (v : View). v.definition.name) vs
 view_names [] = refl
 view_names (v ∷ vs) = ap (λ ns. v.definition.name ∷ ns) (view_names vs)
+
+trigger_names : (gs : List Trigger) → names_told (map TriggerTold gs) ≡ map (λ (g : Trigger). g.definition.name) gs
+trigger_names [] = refl
+trigger_names (g ∷ gs) = ap (λ ns. g.definition.name ∷ ns) (trigger_names gs)
+
+names_treeless : (l : Listed) → names_told (treeless_told l) ≡ treeless_names l
+names_treeless l =
+    map_append name_told (map ViewTold l.views) (map TriggerTold l.triggers)
+    ∙ ap₂ (λ (ns ms : List Name). ns ++ ms) (view_names l.views) (trigger_names l.triggers)
 
 -- the names of the tables and their indexes are those of the tables and then those of the indexes, reordered
 table_names : (ts : List Table) → AreReordered (names_told (tables_told ts)) (map (λ (t : Table). t.name) ts ++ flat_map names_in ts)
@@ -107,29 +136,29 @@ table_names (t ∷ ts) =
         (reordered_is ((mine ++ tables) ++ others) ((tables ++ mine) ++ others) (tables ++ (mine ++ others)) (append_assoc tables mine others)
         (reordered_both (mine ++ tables) (tables ++ mine) others others (reordered_swapped mine tables) (reordered_refl others)))
 
--- the names of all that is told are those of the tables, then those of the views and then those of the indexes, reordered
+-- the names of all that is told are those of the tables, then those of what has no tree and then those of the indexes, reordered
 pub told_names : (l : Listed) → AreReordered (names_told (all_told l)) (names_of l)
 told_names l =
-    is_reordered (names_told (tables_told l.tables) ++ views) (names_told (all_told l)) (tables ++ (views ++ others)) front
-    (reordered_trans (names_told (tables_told l.tables) ++ views) ((tables ++ others) ++ views) (tables ++ (views ++ others))
-    (reordered_both (names_told (tables_told l.tables)) (tables ++ others) views views (table_names l.tables) (reordered_refl views)) turn)
+    is_reordered (names_told (tables_told l.tables) ++ treeless) (names_told (all_told l)) (tables ++ (treeless ++ others)) front
+    (reordered_trans (names_told (tables_told l.tables) ++ treeless) ((tables ++ others) ++ treeless) (tables ++ (treeless ++ others))
+    (reordered_both (names_told (tables_told l.tables)) (tables ++ others) treeless treeless (table_names l.tables) (reordered_refl treeless)) turn)
   where
     tables : List Name
     tables = map (λ (t : Table). t.name) l.tables
 
-    views : List Name
-    views = map (λ (v : View). v.definition.name) l.views
+    treeless : List Name
+    treeless = treeless_names l
 
     others : List Name
     others = flat_map names_in l.tables
 
-    front : names_told (tables_told l.tables) ++ views ≡ names_told (all_told l)
-    front = sym (map_append name_told (tables_told l.tables) (map ViewTold l.views) ∙ ap (λ ns. names_told (tables_told l.tables) ++ ns) (view_names l.views))
+    front : names_told (tables_told l.tables) ++ treeless ≡ names_told (all_told l)
+    front = sym (map_append name_told (tables_told l.tables) (treeless_told l) ∙ ap (λ ns. names_told (tables_told l.tables) ++ ns) (names_treeless l))
 
-    turn : AreReordered ((tables ++ others) ++ views) (tables ++ (views ++ others))
+    turn : AreReordered ((tables ++ others) ++ treeless) (tables ++ (treeless ++ others))
     turn =
-        is_reordered (tables ++ (others ++ views)) ((tables ++ others) ++ views) (tables ++ (views ++ others)) (sym (append_assoc tables others views))
-        (reordered_both tables tables (others ++ views) (views ++ others) (reordered_refl tables) (reordered_swapped others views))
+        is_reordered (tables ++ (others ++ treeless)) ((tables ++ others) ++ treeless) (tables ++ (treeless ++ others)) (sym (append_assoc tables others treeless))
+        (reordered_both tables tables (others ++ treeless) (treeless ++ others) (reordered_refl tables) (reordered_swapped others treeless))
 
 -- names that stand once do in any order
 twice_out : (c d : List Name) (x : Name) → any_twice is_same_name (c ++ x ∷ d) ≡ (list_any (is_same_name x) (c ++ d) || any_twice is_same_name (c ++ d))
@@ -231,12 +260,21 @@ views_taken : (vs : List View) (n : Name) → list_any (is_view n) vs ≡ list_a
 views_taken [] n = refl
 views_taken (v ∷ vs) n = ap (λ b. b || list_any (is_view n) vs) (same_turned v.definition.name n) ∙ ap (λ b. is_same_name n v.definition.name || b) (views_taken vs n)
 
+triggers_taken : (gs : List Trigger) (n : Name) → list_any (is_trigger n) gs ≡ list_any (is_same_name n) (names_told (map TriggerTold gs))
+triggers_taken [] n = refl
+triggers_taken (g ∷ gs) n = ap (λ b. b || list_any (is_trigger n) gs) (same_turned g.definition.name n) ∙ ap (λ b. is_same_name n g.definition.name || b) (triggers_taken gs n)
+
+treeless_taken : (l : Listed) (n : Name) → (list_any (is_view n) l.views || list_any (is_trigger n) l.triggers) ≡ list_any (is_same_name n) (names_told (treeless_told l))
+treeless_taken l n =
+    ap₂ (λ (b c : Bool). b || c) (views_taken l.views n) (triggers_taken l.triggers n)
+    ∙ (sym (any_append (is_same_name n) (names_told (map ViewTold l.views)) (names_told (map TriggerTold l.triggers)))
+    ∙ ap (list_any (is_same_name n)) (sym (map_append name_told (map ViewTold l.views) (map TriggerTold l.triggers))))
+
 pub name_taken : (l : Listed) (n : Name) → is_name_of l n ≡ list_any (is_same_name n) (names_told (all_told l))
 name_taken l n =
-    ap (λ b. b || list_any (is_view n) l.views) (tables_taken l.tables n)
-    ∙ (ap (λ b. list_any (is_same_name n) (names_told (tables_told l.tables)) || b) (views_taken l.views n)
-    ∙ (sym (any_append (is_same_name n) (names_told (tables_told l.tables)) (names_told (map ViewTold l.views)))
-    ∙ ap (list_any (is_same_name n)) (sym (map_append name_told (tables_told l.tables) (map ViewTold l.views)))))
+    ap₂ (λ (b c : Bool). b || c) (tables_taken l.tables n) (treeless_taken l n)
+    ∙ (sym (any_append (is_same_name n) (names_told (tables_told l.tables)) (names_told (treeless_told l)))
+    ∙ ap (list_any (is_same_name n)) (sym (map_append name_told (tables_told l.tables) (treeless_told l))))
 
 -- the same of the parts
 pub name_parts : (l : Listed) (n : Name) → is_name_of l n ≡ list_any (is_same_name n) (names_told (parts_of l))
@@ -259,18 +297,19 @@ added_named item old new adds once =
     first : AreApart (bare_told item ∷ parts_of old)
     first = ap (λ b. b || any_twice is_same_name (names_told (parts_of old))) none ∙ bare_apart (all_told old) (named_apart old once)
 
--- ---- the parts of tables, and of views
+-- ---- the parts of tables, and of what has no tree
 
 -- tables, each without its indexes, and the indexes
 abbrev pub table_parts : List Table → List Told
 table_parts ts = map bare_told (tables_told ts)
 
-bare_views : (vs : List View) → map bare_told (map ViewTold vs) ≡ map ViewTold vs
-bare_views [] = refl
-bare_views (v ∷ vs) = ap (λ ls. ViewTold v ∷ ls) (bare_views vs)
+bare_treeless : (vs : List View) (gs : List Trigger) → map bare_told (map ViewTold vs ++ map TriggerTold gs) ≡ map ViewTold vs ++ map TriggerTold gs
+bare_treeless [] [] = refl
+bare_treeless [] (g ∷ gs) = ap (λ ls. TriggerTold g ∷ ls) (bare_treeless [] gs)
+bare_treeless (v ∷ vs) gs = ap (λ ls. ViewTold v ∷ ls) (bare_treeless vs gs)
 
-pub parts_are : (l : Listed) → parts_of l ≡ table_parts l.tables ++ map ViewTold l.views
-parts_are l = map_append bare_told (tables_told l.tables) (map ViewTold l.views) ∙ ap (λ ls. table_parts l.tables ++ ls) (bare_views l.views)
+pub parts_are : (l : Listed) → parts_of l ≡ table_parts l.tables ++ treeless_told l
+parts_are l = map_append bare_told (tables_told l.tables) (treeless_told l) ∙ ap (λ ls. table_parts l.tables ++ ls) (bare_treeless l.views l.triggers)
 
 -- ---- columns
 
@@ -279,11 +318,13 @@ abbrev pub HasOwnColumns : Told → Type 0
 HasOwnColumns (TableTold t) = is_twice_named t.columns ≡ false
 HasOwnColumns (IndexTold t i) = ⊤
 HasOwnColumns (ViewTold v) = ⊤
+HasOwnColumns (TriggerTold g) = ⊤
 
 pub bare_columns : (item : Told) → HasOwnColumns item → HasOwnColumns (bare_told item)
 bare_columns (TableTold t) h = h
 bare_columns (IndexTold t i) h = tt
 bare_columns (ViewTold v) h = tt
+bare_columns (TriggerTold g) h = tt
 
 pub columns_bare : (items : List Told) → AllByRecursion HasOwnColumns items → AllByRecursion HasOwnColumns (map bare_told items)
 columns_bare [] all = tt
@@ -299,7 +340,7 @@ all_second P (x ∷ xs) ys all = all_second P xs ys all.1
 
 -- what holds of the parts of all that is listed holds of those of the tables
 pub of_tables : (P : Told → Type 0) (l : Listed) → AllByRecursion P (parts_of l) → AllByRecursion P (table_parts l.tables)
-of_tables P l all = all_first P (table_parts l.tables) (map ViewTold l.views) (subst (AllByRecursion P) (parts_are l) all)
+of_tables P l all = all_first P (table_parts l.tables) (treeless_told l) (subst (AllByRecursion P) (parts_are l) all)
 
 pub columns_once : (l : Listed) → AllByRecursion HasOwnColumns (parts_of l) → AreOnce l.tables
 columns_once l all = of_each l.tables (of_tables HasOwnColumns l all)

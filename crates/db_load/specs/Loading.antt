@@ -9,6 +9,7 @@ use Rattle.pages.specs.Map.{PageMap}
 use Rattle.sql_syntax.specs.declared.create.IndexDefinition.{IndexDefinition}
 use Rattle.sql_syntax.specs.declared.create.NewObject.TheVariants as new
 use Rattle.sql_syntax.specs.declared.create.TableDefinition.{TableDefinition}
+use Rattle.sql_syntax.specs.declared.create.TriggerDefinition.{TriggerDefinition}
 use Rattle.sql_syntax.specs.declared.statement.Statement.{Statement}
 use Rattle.sql_grammar.specs.Statements.{is_statement_within}
 use Rattle.sql_grammar.specs.Texts.{IsStatementText}
@@ -17,9 +18,10 @@ use Rattle.catalog.specs.Listed.{is_reserved, listed_in, names_listed}
 use Rattle.catalog.specs.declared.tables.Catalog.{Catalog}
 use Rattle.catalog.specs.declared.tables.Index.{Index}
 use Rattle.catalog.specs.declared.tables.Table.{Table}
+use Rattle.catalog.specs.declared.tables.Trigger.{Trigger}
 use Rattle.catalog.specs.declared.tables.View.{View}
 use Rattle.query_names.specs.Scopes.{is_doubled}
-use Rattle.db_pages.specs.Schema.{CreatesSupported, IsIndexOf, IsTableOf, schema_row}
+use Rattle.db_pages.specs.Schema.{IsCreateOf, IsIndexOf, IsTableOf, schema_row}
 use Rattle.db_pages.specs.Stored.{IsCounted, Stores}
 use Rattle.db_load.specs.declared.schema.SchemaKind.{SchemaKind}
 use Rattle.db_load.specs.declared.schema.SchemaKind.TheVariants as kind
@@ -42,12 +44,14 @@ abbrev pub kind_text : SchemaKind → List ℕ
 kind_text kind.Table = codes "table"
 kind_text kind.Index = codes "index"
 kind_text kind.View = codes "view"
+kind_text kind.Trigger = codes "trigger"
 
--- the page, of so many, where the tree of a row begins: a view has none
+-- the page, of so many, where the tree of a row begins: a view and a trigger have none
 abbrev pub IsRootFor : ℕ → SchemaKind → ℕ → Type 0
 IsRootFor pages kind.Table root = (1 < root) × (root ≤ pages)
 IsRootFor pages kind.Index root = (1 < root) × (root ≤ pages)
 IsRootFor pages kind.View root = root ≡ 0
+IsRootFor pages kind.Trigger root = root ≡ 0
 
 -- the text of a row, or none
 abbrev pub text_of : SchemaRow → Option (List ℕ)
@@ -92,7 +96,7 @@ pub record TellsTable (table : Table) (row : SchemaRow) : Type 0 where
   pub text : List ℕ
   pub text_is : text_of row ≡ Some text
   pub definition : TableDefinition
-  pub creates : CreatesSupported text (new.Table definition)
+  pub creates : IsCreateOf text (new.Table definition)
   pub names : IsOfRow row definition.name
   pub makes : IsTableOf definition table
   pub root_is : table.root ≡ row.root
@@ -108,7 +112,7 @@ pub record TellsIndex (table : Table) (index : Index) (row : SchemaRow) : Type 0
   pub text : List ℕ
   pub text_is : text_of row ≡ Some text
   pub definition : IndexDefinition
-  pub creates : CreatesSupported text (new.Index definition)
+  pub creates : IsCreateOf text (new.Index definition)
   pub names : IsOfIndexRow row definition
   pub makes : IsIndexOf definition table index
   pub root_is : index.root ≡ row.root
@@ -127,7 +131,21 @@ pub record TellsKeyIndex (table : Table) (index : Index) (row : SchemaRow) : Typ
 pub record TellsView (view : View) (row : SchemaRow) : Type 0 where
   pub text : List ℕ
   pub text_is : text_of row ≡ Some text
-  pub creates : CreatesSupported text (new.View view.definition)
+  pub creates : IsCreateOf text (new.View view.definition)
   pub names : IsOfRow row view.definition.name
   pub once : is_doubled (names_listed view.definition) ≡ false
   pub rowid_is : view.rowid ≡ row.rowid
+
+-- The name isn't reserved. The row has it, and that of the trigger's table or view.
+pub record IsOfTriggerRow (row : SchemaRow) (definition : TriggerDefinition) : Type 0 where
+  pub name_is : is_same_name definition.name row.name.now ≡ true
+  pub target_name_is : is_same_name definition.target row.table_name.now ≡ true
+  pub free : is_reserved definition.name ≡ false
+
+-- The parts of a row tell this trigger.
+pub record TellsTrigger (trigger : Trigger) (row : SchemaRow) : Type 0 where
+  pub text : List ℕ
+  pub text_is : text_of row ≡ Some text
+  pub creates : IsCreateOf text (new.Trigger trigger.definition)
+  pub names : IsOfTriggerRow row trigger.definition
+  pub rowid_is : trigger.rowid ≡ row.rowid

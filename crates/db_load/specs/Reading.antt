@@ -1,4 +1,4 @@
--- What the rows of the schema table add to a catalog, those of tables and views first and then those of indexes (Database File Format,
+-- What the rows of the schema table add to a catalog, those of indexes after the others (Database File Format,
 -- "Storage Of The SQL Database Schema").
 use Rattle.std.specs.Prelude.{◌≡◌, ◌⊎◌, ⊤, ◌++◌, ◌∷◌, ◌==◌, true, false, not, ℕ, Bool, List, [], Some, length, map, filter, Result, IfOk, OnOk, MatchResult}
 use Rattle.std.specs.List.{AllByRecursion}
@@ -22,9 +22,10 @@ use Rattle.catalog.specs.declared.tables.Index.{Index}
 use Rattle.catalog.specs.declared.tables.IndexColumn.{IndexColumn}
 use Rattle.catalog.specs.declared.tables.Table.{Table}
 use Rattle.query_names.specs.Bound.{is_twice_named}
+use Rattle.query_bind.specs.Triggers.{FitsTarget}
 use Rattle.db_pages.specs.Reordering.{AreReordered}
-use Rattle.db_pages.specs.Schema.{AreRowsOf, HasKeyIndexes, IndexTold, TableTold, Tells, Told, ViewTold, all_told, due_objects}
-use Rattle.db_load.specs.Loading.{TellsIndex, TellsKeyIndex, TellsTable, TellsView, bare, kind_text}
+use Rattle.db_pages.specs.Schema.{AreRowsOf, HasKeyIndexes, IndexTold, TableTold, Tells, Told, TriggerTold, ViewTold, all_told, due_objects}
+use Rattle.db_load.specs.Loading.{TellsIndex, TellsKeyIndex, TellsTable, TellsTrigger, TellsView, bare, kind_text}
 use Rattle.db_load.specs.declared.schema.SchemaKind.{SchemaKind}
 use Rattle.db_load.specs.declared.schema.SchemaKind.TheVariants as kind
 use Rattle.db_load.specs.declared.schema.SchemaRow.{SchemaRow}
@@ -36,8 +37,9 @@ abbrev pub bare_told : Told → Told
 bare_told (TableTold table) = TableTold (bare table)
 bare_told (IndexTold table index) = IndexTold (bare table) index
 bare_told (ViewTold view) = ViewTold view
+bare_told (TriggerTold trigger) = TriggerTold trigger
 
--- the tables, each without its indexes, the indexes, and the views
+-- the tables, each without its indexes, the indexes, the views, and the triggers
 abbrev pub parts_of : Listed → List Told
 parts_of l = map bare_told (all_told l)
 
@@ -45,12 +47,13 @@ abbrev pub name_told : Told → Name
 name_told (TableTold table) = table.name
 name_told (IndexTold table index) = index.name
 name_told (ViewTold view) = view.definition.name
+name_told (TriggerTold trigger) = trigger.definition.name
 
--- the same tables, in whatever order, each with the same indexes, in whatever order, and the same views, in whatever order
+-- the same tables, in whatever order, each with the same indexes, in whatever order, and the same views and triggers, in whatever order
 abbrev pub AreAlike : Listed → Listed → Type 0
 AreAlike l others = AreReordered (parts_of l) (parts_of others)
 
--- no two columns of a table have one name, and no two tables, indexes or views
+-- no two columns of a table have one name, and no two tables, indexes, views or triggers
 pub record AreSound (l : Listed) : Type 0 where
   pub columns : AllByRecursion (λ table. is_twice_named table.columns ≡ false) l.tables
   pub named : are_named_once l ≡ true
@@ -70,11 +73,12 @@ due_object table columns = AnIndex (record { table = folded table.name; is_uniqu
 abbrev pub IsDue : Table → Index → Type 0
 IsDue table index = index.is_automatic ≡ true → StandsIn (index.name, AnIndex (as_index table index)) (due_objects table)
 
--- what is told is a table, a view, or an index of which this is so
+-- what is told is an index of which this is so, or no index
 abbrev pub IsDueTold : Told → Type 0
 IsDueTold (TableTold table) = ⊤
 IsDueTold (IndexTold table index) = IsDue table index
 IsDueTold (ViewTold view) = ⊤
+IsDueTold (TriggerTold trigger) = ⊤
 
 -- no two of the indexes that the table's keys ask for have one name
 abbrev pub AreDueOnce : Table → Type 0
@@ -88,6 +92,12 @@ has_all_keys table = length (filter (λ index. index.is_automatic) table.indexes
 pub record AreIndexed (l : Listed) : Type 0 where
   pub sound : AreSound l
   pub keys : AllByRecursion HasKeyIndexes l.tables
+
+-- ---- what triggers are on
+
+-- each trigger fits what its ON names beside what is listed
+abbrev pub AreOnTargets : Listed → Type 0
+AreOnTargets l = AllByRecursion (λ trigger. FitsTarget l trigger.definition) l.triggers
 
 -- ---- one more
 
@@ -125,34 +135,40 @@ pub record GrowsBy (l : Listed) (row : SchemaRow) (grown : Table) : Type 0 where
   pub fresh : is_name_of l index.name ≡ false
   pub grown_is : grown ≡ with_index index table
 
--- ---- one row, in the pass over tables and views or in that over indexes
+-- ---- one row, in the pass over tables, views and triggers or in that over indexes
 
--- whether a pass lists what is told: the first lists tables and views, the other indexes
+-- whether a pass lists what is told: the first lists tables, views and triggers, the other indexes
 abbrev pub is_of_pass : Bool → Told → Bool
 is_of_pass true (TableTold table) = true
 is_of_pass true (IndexTold table index) = false
 is_of_pass true (ViewTold view) = true
+is_of_pass true (TriggerTold trigger) = true
 is_of_pass false (TableTold table) = false
 is_of_pass false (IndexTold table index) = true
 is_of_pass false (ViewTold view) = false
+is_of_pass false (TriggerTold trigger) = false
 
 -- nothing stands in the way of the pass
 abbrev pub CanAdd : Bool → Told → Listed → Type 0
 CanAdd true (TableTold table) l = AreSound l × (is_name_of l table.name ≡ false)
 CanAdd true (IndexTold table index) l = ⊤
 CanAdd true (ViewTold view) l = AreSound l × (is_name_of l view.definition.name ≡ false)
+CanAdd true (TriggerTold trigger) l = AreSound l × (is_name_of l trigger.definition.name ≡ false)
 CanAdd false (TableTold table) l = ⊤
 CanAdd false (IndexTold table index) l = CanGrow l table index
 CanAdd false (ViewTold view) l = ⊤
+CanAdd false (TriggerTold trigger) l = ⊤
 
 -- what the pass lists is listed, and nothing else
 abbrev pub AddsOf : Bool → Told → Listed → Listed → Type 0
 AddsOf true (TableTold table) old new = AddsTold (TableTold table) old new
 AddsOf true (IndexTold table index) old new = new ≡ old
 AddsOf true (ViewTold view) old new = AddsTold (ViewTold view) old new
+AddsOf true (TriggerTold trigger) old new = AddsTold (TriggerTold trigger) old new
 AddsOf false (TableTold table) old new = new ≡ old
 AddsOf false (IndexTold table index) old new = AddsTold (IndexTold table index) old new
 AddsOf false (ViewTold view) old new = new ≡ old
+AddsOf false (TriggerTold trigger) old new = new ≡ old
 
 -- what the pass lists is listed; or memory was short
 abbrev pub ReadsTold : Bool → Told → Listed → Listed → Result ⊤ Fault → Type 0
@@ -163,6 +179,7 @@ abbrev pub TellsParts : Told → SchemaRow → Type 0
 TellsParts (TableTold table) row = (row.kind ≡ kind.Table) × TellsTable table row
 TellsParts (IndexTold table index) row = (row.kind ≡ kind.Index) × (TellsIndex table index row ⊎ TellsKeyIndex table index row)
 TellsParts (ViewTold view) row = (row.kind ≡ kind.View) × TellsView view row
+TellsParts (TriggerTold trigger) row = (row.kind ≡ kind.Trigger) × TellsTrigger trigger row
 
 -- the row of these parts tells what was listed
 pub record FindsParts (first : Bool) (row : SchemaRow) (old new : Listed) : Type 0 where
@@ -177,6 +194,7 @@ abbrev pub is_kind_first : SchemaKind → Bool
 is_kind_first kind.Table = true
 is_kind_first kind.Index = false
 is_kind_first kind.View = true
+is_kind_first kind.Trigger = true
 
 -- the row is of a kind that the first pass lists, or that the other does
 abbrev pub IsKind : Bool → Entry → Type 0
@@ -201,7 +219,8 @@ abbrev pub Finds : Bool → ℕ → List Entry → Listed → Listed → Type 0
 Finds first pages [] old new = new ≡ old
 Finds first pages (row ∷ rows) old new = (mid : Listed) × FindsRow first pages row old mid × Finds first pages rows mid new
 
--- what is listed where so much was told and the rest is left: the tables and views told so far, or all of these and the indexes told so far
+-- what is listed where so much was told and the rest is left: what was told so far but for the indexes, or all that is no index and the indexes
+-- told so far
 abbrev pub listed_by : Bool → List Told → List Told → List Told
 listed_by true before rest = filter (is_of_pass true) before
 listed_by false before rest = filter (is_of_pass true) (before ++ rest) ++ filter (is_of_pass false) before
@@ -230,13 +249,14 @@ abbrev pub FindsRows : Bool → PageMap → ℕ → ℕ → Listed → Listed �
 FindsRows first map size pages old new result = (rows : List Entry) (used : List ℕ) → AreWhole size map → IsTableTree map size 1 rows used
     → OnOk result (Finds first pages rows old new)
 
--- Where a tree under page 1 has rows that tell these tables, indexes and views, the catalog lists them; or memory was short, or a disk's call
--- failed.
+-- Where a tree under page 1 has rows that tell what is listed, the catalog lists it; or memory was short, or a disk's call failed.
 abbrev pub LoadsTree : PageMap → ℕ → ℕ → Result Catalog Fault → Type 0
 LoadsTree map size pages result = (l : Listed) (rows : List Entry) (used : List ℕ) → AreWhole size map → IsTableTree map size 1 rows used
-    → AreRowsOf pages l rows → are_named_once l ≡ true → AllByRecursion HasKeyIndexes l.tables → IsOrOutside (λ catalog. AreAlike l (listed_in catalog)) result
+    → AreRowsOf pages l rows → are_named_once l ≡ true → AllByRecursion HasKeyIndexes l.tables → AreOnTargets l
+    → IsOrOutside (λ catalog. AreAlike l (listed_in catalog)) result
 
 -- where a tree has these rows, they tell what the catalog lists
 abbrev pub TellsTree : PageMap → ℕ → ℕ → Result Catalog Fault → Type 0
 TellsTree map size pages result = (rows : List Entry) (used : List ℕ) → AreWhole size map → IsTableTree map size 1 rows used
-    → IfOk result (λ catalog. AreRowsOf pages (listed_in catalog) rows × (are_named_once (listed_in catalog) ≡ true) × AllByRecursion HasKeyIndexes (tables_of catalog))
+    → IfOk result (λ catalog. AreRowsOf pages (listed_in catalog) rows × (are_named_once (listed_in catalog) ≡ true) × AllByRecursion HasKeyIndexes (tables_of catalog)
+    × AreOnTargets (listed_in catalog))

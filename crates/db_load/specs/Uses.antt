@@ -23,6 +23,7 @@ use Rattle.tree_check.specs.Exact.{HasMarked}
 use Rattle.tree_check.specs.Marks.{mark_of, Marks, AreUnmarked}
 use Rattle.db_pages.specs.Schema.{AreRowsOf, HasKeyIndexes}
 use Rattle.db_pages.specs.Stored.{all_trees}
+use Rattle.db_load.specs.Reading.{AreOnTargets}
 
 -- Page 1 begins with this header, which tells this page size, and counts so many pages, where its count holds.
 pub record IsFirstHeader (page : List ℕ) (page_size size : ℕ) (header : Header) : Type 0 where
@@ -57,13 +58,14 @@ pub record Uses : Type 0 where
 abbrev pub pages_used : Uses → List ℕ
 pages_used uses = uses.schema_used ++ (pages_held uses.held ++ pages_of uses.trunks)
 
--- The pages are used so: the schema table's rows tell these tables, indexes and views, each table has its trees and the indexes that its keys
--- ask for, and the header tells the freelist.
+-- The pages are used so: the schema table's rows tell what is listed, each table has its trees and the indexes that its keys ask for, each
+-- trigger fits what it is on, and the header tells the freelist.
 pub record AreUses (map : PageMap) (size : ℕ) (header : Header) (l : Listed) (uses : Uses) : Type 0 where
   pub tree : IsTableTree map size 1 uses.schema uses.schema_used
   pub tell : AreRowsOf (length map) l uses.schema
   pub once : are_named_once l ≡ true
   pub keys : AllByRecursion HasKeyIndexes l.tables
+  pub targets : AreOnTargets l
   pub each : Pairwise (HasTrees map size) l.tables uses.held
   pub listed : IsFreelist map size header.freelist_trunk header.freelist_count uses.trunks
 

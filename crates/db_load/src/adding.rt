@@ -9,13 +9,14 @@ ghost use Rattle.db_load.specs.Reading.{AreSound, FindsParts, FindsRow, ReadsTol
 
 use crate::index_rows::add_index;
 use crate::schema::{SchemaKind, SchemaRow, add_table, row_of};
+use crate::triggers::add_trigger;
 use crate::views::add_view;
 use catalog::Catalog;
 use record::Record;
 use sqlval::R;
 use std::alloc::Global;
 
-/// Adds what a row tells, if it is a table or a view, or if it is an index, as is asked for. (What `add_table`, `add_view` and `add_index`
+/// Adds what a row tells, if it is an index, or if it is none, as is asked for. (What `add_table`, `add_view`, `add_trigger` and `add_index`
 /// refuse.)
 fn add_told(alloc: Global, catalog: &mut Catalog, row: &SchemaRow<'_>, tables: bool) -> R<()>
     ensures tells { (item : Told) → TellsParts item row.now
@@ -28,13 +29,14 @@ fn add_told(alloc: Global, catalog: &mut Catalog, row: &SchemaRow<'_>, tables: b
     match (tables, row.kind) {
         (true, SchemaKind::Table) => add_table(alloc, catalog, row),
         (true, SchemaKind::View) => add_view(alloc, catalog, row),
+        (true, SchemaKind::Trigger) => add_trigger(alloc, catalog, row),
         (false, SchemaKind::Index) => add_index(alloc, catalog, row),
         _ => Ok(()),
     }
 }
 
-/// Adds what a row of the schema table tells, if it is a table or a view, or if it is an index, as is asked for. (What `Record::over`,
-/// `row_of` and `add_told` refuse.)
+/// Adds what a row of the schema table tells, if it is an index, or if it is none, as is asked for. (What `Record::over`, `row_of` and
+/// `add_told` refuse.)
 pub fn add_row(
     alloc: Global,
     catalog: &mut Catalog,

@@ -23,7 +23,7 @@ use catalog::{Catalog, Index, Table, with_index};
 use query_bind::{BoundIndex, bind_index};
 use sql_parser::release;
 use sql_syntax::{IndexDefinition, NewObject, Statement};
-use sqlval::{Fault, Feature, R};
+use sqlval::{Fault, R};
 use std::alloc::Global;
 
 /// The definition of an index, which the object must be.
@@ -35,7 +35,7 @@ fn index_in(object: &NewObject) -> R<&IndexDefinition>
 {
     match object {
         NewObject::Index(definition) => Ok(definition),
-        _ => Err(Fault::Unsupported(Feature::StatementForm)),
+        _ => Err(damaged()),
     }
 }
 

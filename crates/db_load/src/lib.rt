@@ -1,4 +1,4 @@
-//! Reads a database's tables, indexes and views, and checks that its pages are theirs.
+//! Reads a database's tables, indexes, views and triggers, and checks that its pages are theirs.
 #![tactic(auto)]
 
 mod adding;
@@ -9,6 +9,7 @@ mod loading;
 mod schema;
 mod tables;
 mod tree;
+mod triggers;
 mod views;
 mod whole;
 

@@ -1,4 +1,4 @@
-//! Loading the tables, indexes and views of a database.
+//! Loading the tables, indexes, views and triggers of a database.
 
 ghost use Rattle.std.specs.Prelude.{◌≡◌, ◌↔◌, ℕ, IsTrue, Ok, IfOk, IfErr, OnOk, length};
 ghost use Rattle.sqlval.specs.Faults.{IsNotDiskFault, IsOutside};
@@ -116,8 +116,8 @@ fn not_blank(fault: Fault) -> Fault
     }
 }
 
-/// The tables, indexes and views of the database that the pages hold. (`Damaged` or `Unsupported` for pages that hold none; `Memory`; what `load` of the
-/// pages refuses, except for `Blank`.)
+/// The tables, indexes, views and triggers of the database that the pages hold. (`Damaged` or `Unsupported` for pages that hold none; `Memory`;
+/// what `load` of the pages refuses, except for `Blank`.)
 pub fn load<P: Pages>(alloc: Global, pages: &mut P, size: u32) -> R<Catalog>
     // What pages that hold a database list is loaded, unless memory runs out or a disk's call fails.
     ensures listed { (l : Listed) (database : Database)

@@ -36,6 +36,7 @@ pub(crate) enum SchemaKind {
     Table,
     Index,
     View,
+    Trigger,
 }
 
 /// A row of the schema table.
@@ -45,7 +46,7 @@ pub(crate) struct SchemaRow<'a> {
     pub kind: SchemaKind,
     pub name: &'a str,
     pub table_name: &'a str,
-    /// 0 of a view.
+    /// 0 of a view and of a trigger.
     pub root: u32,
     /// None of an automatic index.
     pub sql: Option<&'a str>,
@@ -79,7 +80,7 @@ fn kind_of(field: Field<'_>) -> R<SchemaKind>
         Field::Text("table") => Ok(SchemaKind::Table),
         Field::Text("index") => Ok(SchemaKind::Index),
         Field::Text("view") => Ok(SchemaKind::View),
-        Field::Text("trigger") => Err(Fault::Unsupported(Feature::StatementForm)),
+        Field::Text("trigger") => Ok(SchemaKind::Trigger),
         _ => Err(damaged()),
     }
 }
@@ -124,14 +125,14 @@ fn text_in<'a>(row: &SchemaRow<'a>) -> R<&'a str>
     }
 }
 
-/// Whether the tree of a row begins at this page: from 2 to `size`, and 0 for a view, which has none.
+/// Whether the tree of a row begins at this page: from 2 to `size`, and 0 for a view or a trigger, which has none.
 fn is_root(kind: SchemaKind, root: u32, size: u32) -> bool
     ensures found { result ≡ true → IsRootFor size kind root }
     ensures only { IsRootFor size kind root → result ≡ true }
 {
     match kind {
         SchemaKind::Table | SchemaKind::Index => root > 1 && root <= size,
-        SchemaKind::View => root == 0,
+        SchemaKind::View | SchemaKind::Trigger => root == 0,
     }
 }
 
@@ -210,7 +211,7 @@ fn table_in(object: &NewObject) -> R<&TableDefinition>
 {
     match object {
         NewObject::Table(definition) => Ok(definition),
-        _ => Err(Fault::Unsupported(Feature::StatementForm)),
+        _ => Err(damaged()),
     }
 }
 
@@ -327,7 +328,7 @@ fn table_of(alloc: Global, row: &SchemaRow<'_>) -> R<Table>
     table
 }
 
-/// Checks that no table of the catalog, no index and no view has this name.
+/// Checks that no table of the catalog, no index, no view and no trigger has this name.
 pub(crate) fn is_new(catalog: &Catalog, name: &Name) -> R<()>
     ensures tells { is_name_of (listed_in catalog.now) name.now ≡ false → result ≡ Ok tt }
     ensures found { OnOk result (is_name_of (listed_in catalog.now) name.now ≡ false) }

@@ -1,4 +1,4 @@
-//! The tables, indexes and views of the schema, as the rows of its tree tell them.
+//! The tables, indexes, views and triggers of the schema, as the rows of its tree tell them.
 
 ghost use Rattle.std.specs.Prelude.{IsTrue, IfErr, OnOk};
 ghost use Rattle.pages.specs.Calls.{Stays};
@@ -8,8 +8,10 @@ ghost use Rattle.db_load.specs.Reading.{Finds, FindsRows, LoadsNext, LoadsRows, 
 
 use crate::adding::add_row;
 use crate::automatic::check_keys;
+use crate::triggers::check_targets;
 use catalog::Catalog;
 use pages::Pages;
+use query_bind::triggers_are_created_as_defined;
 use record::bytes_determine_values;
 use sqlval::R;
 use std::alloc::Global;
@@ -18,7 +20,7 @@ use tree_table::{Batch, Cursor};
 /// The page where the tree of the schema table begins.
 const SCHEMA: u32 = 1;
 
-/// Adds the tables and views, or the indexes, that the rows of a batch tell, in a database of `size` pages. (As `add_row`.)
+/// Adds the indexes, or all else, that the rows of a batch tell, in a database of `size` pages. (As `add_row`.)
 fn add_batch(alloc: Global, catalog: &mut Catalog, batch: &Batch, size: u32, tables: bool) -> R<()>
     ensures loaded { LoadsNext tables size batch.now (listed_in catalog.old) (listed_in catalog.new) result }
     ensures told { OnOk result (Finds tables size batch.now (listed_in catalog.old) (listed_in catalog.new)) }
@@ -31,8 +33,7 @@ fn add_batch(alloc: Global, catalog: &mut Catalog, batch: &Batch, size: u32, tab
     Ok(())
 }
 
-/// Adds the tables and views, or the indexes, that the rows of the schema table tell, in a database of `size` pages, whatever pages the rows
-/// lie on. (As `add_row`, except for pages that are no tree of a table: those are refused as a `Cursor` does.)
+/// Adds the indexes, or all else, that the rows of the schema table tell, in a database of `size` pages, whatever pages the rows lie on. (As `add_row`, except for pages that are no tree of a table: those are refused as a `Cursor` does.)
 fn add_rows<P: Pages>(
     alloc: Global,
     pages: &mut P,
@@ -57,8 +58,8 @@ fn add_rows<P: Pages>(
     Ok(())
 }
 
-/// The tables that the rows of the schema table tell, with their indexes, and the views, in a database of `size` pages. (As `add_rows` and
-/// `check_keys`.)
+/// The tables that the rows of the schema table tell, with their indexes, the views and the triggers, in a database of `size` pages. (As
+/// `add_rows`, `check_keys` and `check_targets`.)
 pub fn load_schema<P: Pages>(alloc: Global, pages: &mut P, size: u32) -> R<Catalog>
     ensures loaded { IsTrue (P.Pages.tells (P.Pages.below pages.old))
         → LoadsTree (P.Pages.map pages.old) (P.Pages.limits (P.Pages.below pages.old)).page size result }
@@ -67,9 +68,11 @@ pub fn load_schema<P: Pages>(alloc: Global, pages: &mut P, size: u32) -> R<Catal
     ensures stays { Stays P.Pages.below P.Pages.map P.Pages.count P.Pages.failures result pages.old pages.new }
 {
     bytes_determine_values();
+    triggers_are_created_as_defined();
     let mut catalog = Catalog::empty(alloc);
     add_rows(alloc, pages, &mut catalog, size, true)?;
     add_rows(alloc, pages, &mut catalog, size, false)?;
     check_keys(catalog.tables())?;
+    check_targets(alloc, &catalog)?;
     Ok(catalog)
 }

@@ -1,9 +1,7 @@
 //! The views that the rows of the schema table tell.
 
 ghost use Rattle.std.specs.Prelude.{◌≡◌, false, true, IfErr, IfOk, Ok, OnOk};
-ghost use Rattle.std.specs.List.{list_any};
 ghost use Rattle.sqlval.specs.Faults.{IsOrMemory};
-ghost use Rattle.sqlval.specs.Names.{is_same_name};
 ghost use Rattle.sql_syntax.specs.declared.create.Create.{Create as Made};
 ghost use Rattle.sql_syntax.specs.declared.create.NewObject.TheVariants as new;
 ghost use Rattle.sql_syntax.specs.declared.create.ViewDefinition.{ViewDefinition as Defined};
@@ -16,11 +14,12 @@ ghost use Rattle.db_load.specs.Loading.{IsOfRow, IsSchemaFault, IsTextOf, TellsV
 ghost use Rattle.db_load.specs.Reading.{AddsTold, FindsParts, ReadsTold};
 ghost use Rattle.db_load.specs.declared.schema.SchemaKind.TheVariants as kind;
 
-use crate::schema::{SchemaRow, is_new, is_of_row, statement_of};
+use crate::schema::{SchemaRow, damaged, is_new, is_of_row, statement_of};
 use catalog::{Catalog, View};
+use query_names::has_doubled;
 use sql_parser::release;
 use sql_syntax::{Create, NewObject, Statement, ViewDefinition};
-use sqlval::{Fault, Feature, Name, R};
+use sqlval::{Fault, Feature, R};
 use std::alloc::Global;
 
 /// The definition of a view, which a CREATE must make.
@@ -34,7 +33,7 @@ fn view_in(create: Create) -> R<ViewDefinition>
         NewObject::View(definition) => Ok(definition),
         object => {
             release(Statement::Create(Create { sql, object }));
-            Err(Fault::Unsupported(Feature::StatementForm))
+            Err(damaged())
         }
     }
 }
@@ -56,33 +55,12 @@ fn view_definition_in(statement: Statement) -> R<ViewDefinition>
     }
 }
 
-/// Whether a list has this name.
-fn has_name(names: &[Name], name: &Name) -> bool
-    ensures { result ≡ list_any (is_same_name name.now) names.now }
-{
-    names.iter().any(|other| name.is_same(other.as_str()))
-}
-
-/// Whether a name stands twice in a list.
-fn is_twice_in(names: &[Name]) -> bool
-    ensures { result ≡ is_doubled names.now }
-{
-    let mut rest = names;
-    'names: while let [name, after @ ..] = rest {
-        if has_name(after, name) {
-            return true;
-        }
-        rest = after;
-    }
-    false
-}
-
 /// Whether the list of a view's names has one twice.
 fn lists_twice(definition: &ViewDefinition) -> bool
     ensures { result ≡ is_doubled (names_listed definition.now) }
 {
     match &definition.columns {
-        Some(names) => is_twice_in(names.as_slice()),
+        Some(names) => has_doubled(names.as_slice()),
         None => false,
     }
 }

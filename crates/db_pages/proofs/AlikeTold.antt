@@ -1,4 +1,4 @@
--- Two lists of tables, indexes and views that are alike at each place: a name finds the same in both.
+-- Two lists of tables, indexes, views and triggers that are alike at each place: a name finds the same in both.
 use Rattle.std.proofs.Common.{◌≡◌, ◌∙◌, refl, sym, ap, ℕ, ℤ, Bool, true, false, cond, List, [], ◌∷◌, map, Some}
 use Rattle.std.specs.List.{AllByRecursion}
 use Rattle.std.specs.Str.{bytes_eq}
@@ -8,7 +8,7 @@ use Rattle.tree_page.specs.Cells.{Pairwise}
 use Rattle.catalog.specs.Database as database
 use Rattle.catalog.specs.Database.{ATable, AnIndex, Name, Object}
 use Rattle.catalog.specs.Listed.{named_among, as_index}
-use Rattle.db_pages.specs.Schema.{IndexTold, TableTold, Told, ViewTold}
+use Rattle.db_pages.specs.Schema.{IndexTold, TableTold, Told, TriggerTold, ViewTold}
 use Rattle.db_pages.proofs.NamedObjects.{one_among}
 use Rattle.db_pages.proofs.ToldObjects.{told_name, told_object, told_pair}
 
@@ -42,11 +42,12 @@ module _ (rows_at others_at : ℕ → List (ℤ × List Value)) where
   abbrev pub AreAlike : Told → Told → Type 0
   AreAlike one other = (folded (told_name one) ≡ folded (told_name other)) × (told_object rows_at one ≡ told_object others_at other)
 
-  -- tables or views that are alike, or indexes of one name
+  -- tables, views or triggers that are alike, or indexes of one name
   abbrev pub HaveAlikeTables : Told → Told → Type 0
   HaveAlikeTables (TableTold t) (TableTold u) = AreAlike (TableTold t) (TableTold u)
   HaveAlikeTables (IndexTold t i) (IndexTold u j) = folded i.name ≡ folded j.name
   HaveAlikeTables (ViewTold v) (ViewTold w) = AreAlike (ViewTold v) (ViewTold w)
+  HaveAlikeTables (TriggerTold g) (TriggerTold h) = AreAlike (TriggerTold g) (TriggerTold h)
   HaveAlikeTables _ _ = ⊥
 
   same_test : (a b name : Name) → folded a ≡ folded b → is_same_name a name ≡ is_same_name b name
@@ -78,15 +79,24 @@ module _ (rows_at others_at : ℕ → List (ℤ × List Value)) where
       (λ h. ap (λ (o : Object). Some o) (sym alike.0.1) ∙ h) (table_found name t told others alike.1) found
   table_found name t (TableTold v ∷ told) (IndexTold w j ∷ others) alike found = absurd alike.0
   table_found name t (TableTold v ∷ told) (ViewTold w ∷ others) alike found = absurd alike.0
+  table_found name t (TableTold v ∷ told) (TriggerTold h ∷ others) alike found = absurd alike.0
   table_found name t (IndexTold v i ∷ told) (TableTold w ∷ others) alike found = absurd alike.0
   table_found name t (IndexTold v i ∷ told) (ViewTold w ∷ others) alike found = absurd alike.0
+  table_found name t (IndexTold v i ∷ told) (TriggerTold h ∷ others) alike found = absurd alike.0
   table_found name t (ViewTold v ∷ told) (TableTold w ∷ others) alike found = absurd alike.0
   table_found name t (ViewTold v ∷ told) (IndexTold w j ∷ others) alike found = absurd alike.0
+  table_found name t (ViewTold v ∷ told) (TriggerTold h ∷ others) alike found = absurd alike.0
+  table_found name t (TriggerTold g ∷ told) (TableTold w ∷ others) alike found = absurd alike.0
+  table_found name t (TriggerTold g ∷ told) (IndexTold w j ∷ others) alike found = absurd alike.0
+  table_found name t (TriggerTold g ∷ told) (ViewTold w ∷ others) alike found = absurd alike.0
   table_found name t (IndexTold v i ∷ told) (IndexTold w j ∷ others) alike found =
       picked name t (told_pair rows_at (IndexTold v i)) (told_pair others_at (IndexTold w j)) (map (told_pair rows_at) told) (map (told_pair others_at) others) alike.0
       (λ h. no_table (as_index v i) t h) (table_found name t told others alike.1) found
   table_found name t (ViewTold v ∷ told) (ViewTold w ∷ others) alike found =
       picked name t (told_pair rows_at (ViewTold v)) (told_pair others_at (ViewTold w)) (map (told_pair rows_at) told) (map (told_pair others_at) others) alike.0.0
+      (λ h. ap (λ (o : Object). Some o) (sym alike.0.1) ∙ h) (table_found name t told others alike.1) found
+  table_found name t (TriggerTold g ∷ told) (TriggerTold k ∷ others) alike found =
+      picked name t (told_pair rows_at (TriggerTold g)) (told_pair others_at (TriggerTold k)) (map (told_pair rows_at) told) (map (told_pair others_at) others) alike.0.0
       (λ h. ap (λ (o : Object). Some o) (sym alike.0.1) ∙ h) (table_found name t told others alike.1) found
 
   -- and a name finds the same in both

@@ -1,5 +1,5 @@
 -- The automatic indexes of a table: those of the database are those that its keys ask for, where it lists these.
-use Rattle.std.proofs.Common.{◌≡◌, ◌∙◌, refl, sym, ap, ap₂, subst, append-nil, ℕ, ℤ, Bool, true, false, ◌&&◌, ◌||◌, cond, filter, List, [], ◌∷◌, ◌++◌, map, Some}
+use Rattle.std.proofs.Common.{◌≡◌, ◌∙◌, refl, sym, ap, ap₂, subst, append-nil, append_assoc, ℕ, ℤ, Bool, true, false, ◌&&◌, ◌||◌, cond, filter, List, [], ◌∷◌, ◌++◌, map, Some}
 use Rattle.std.specs.Prelude.{flat_map}
 use Rattle.std.proofs.lemmas.Bool.{false≢true}
 use Rattle.std.proofs.lemmas.List.Elements.{filter-append}
@@ -10,10 +10,11 @@ use Rattle.sqlval.specs.Lists.{any_twice, sorted}
 use Rattle.sqlval.specs.Names.{folded, is_same_name}
 use Rattle.sqlval.specs.declared.value.Value.{Value}
 use Rattle.catalog.specs.Database.{ATable, AnIndex, AView, ATrigger, Database, Name, Object, object}
-use Rattle.catalog.specs.Listed.{Listed, as_index, index_objects, key_columns, named_among, names_of, objects_of, table_named, table_object, view_object}
+use Rattle.catalog.specs.Listed.{Listed, as_index, index_objects, key_columns, named_among, names_of, objects_of, table_named, table_object, treeless_names, treeless_objects, trigger_object, view_object}
 use Rattle.catalog.specs.Named.{IsNamed, IsOfListed}
 use Rattle.catalog.specs.declared.tables.Index.{Index}
 use Rattle.catalog.specs.declared.tables.Table.{Table}
+use Rattle.catalog.specs.declared.tables.Trigger.{Trigger}
 use Rattle.catalog.specs.declared.tables.View.{View}
 use Rattle.catalog.proofs.NamedDatabases.{folded_twice, in_order, one_database}
 use Rattle.db_files.specs.Schema.{automatic_indexes}
@@ -116,10 +117,19 @@ module _ (t : Table) where
   behind_tables rows_at [] os = refl
   behind_tables rows_at (u ∷ us) os = behind_tables rows_at us os
 
-  -- and no view is one
+  -- and no view or trigger is one
   behind_views : (vs : List View) (os : List (Name × Object)) → mine (map view_object vs ++ os) ≡ mine os
   behind_views [] os = refl
   behind_views (v ∷ vs) os = behind_views vs os
+
+  behind_triggers : (ts : List Trigger) (os : List (Name × Object)) → mine (map trigger_object ts ++ os) ≡ mine os
+  behind_triggers [] os = refl
+  behind_triggers (u ∷ us) os = behind_triggers us os
+
+  behind_treeless : (l : Listed) (os : List (Name × Object)) → mine (treeless_objects l ++ os) ≡ mine os
+  behind_treeless l os =
+      ap mine (append_assoc (map view_object l.views) (map trigger_object l.triggers) os)
+      ∙ (behind_views l.views (map trigger_object l.triggers ++ os) ∙ behind_triggers l.triggers os)
 
 -- ---- tables by their names
 
@@ -180,7 +190,7 @@ module _ (rows_at : ℕ → List (ℤ × List Value)) (l : Listed) (db : Databas
 
   once : any_twice is_same_name (table_names l.tables) ≡ false
   once =
-      no_table_twice (table_names l.tables) (map (λ (v : View). v.definition.name) l.views ++ flat_map (λ (t : Table). map (λ (i : Index). i.name) t.indexes) l.tables)
+      no_table_twice (table_names l.tables) (treeless_names l ++ flat_map (λ (t : Table). map (λ (i : Index). i.name) t.indexes) l.tables)
       (is_no (any_twice is_same_name (names_of l)) of.once)
 
   -- each table is found under its name
@@ -190,8 +200,8 @@ module _ (rows_at : ℕ → List (ℤ × List Value)) (l : Listed) (db : Databas
   module _ (t : Table) (found : table_named t.name l.tables ≡ Some t) where
     all_mine : those (made_by t.name) all_objects ≡ automatic_objects t
     all_mine =
-        behind_tables t rows_at l.tables (map view_object l.views ++ flat_map index_objects l.tables)
-        ∙ (behind_views t l.views (flat_map index_objects l.tables) ∙ of_tables t l.tables once found)
+        behind_tables t rows_at l.tables (treeless_objects l ++ flat_map index_objects l.tables)
+        ∙ (behind_treeless t l (flat_map index_objects l.tables) ∙ of_tables t l.tables once found)
 
     pub own_automatic : HaveOwnNames (automatic_objects t)
     own_automatic = subst HaveOwnNames all_mine (own_still (made_by t.name) all_objects own)

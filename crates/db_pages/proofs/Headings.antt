@@ -122,6 +122,7 @@ module _ (old new : PageMap) (header next : Header) (is : IsReheaded old new hea
         of_listed = held.of_listed;
         once = held.once;
         keys = held.keys;
+        targets = held.targets;
         header = next;
         header_is = is.next_is;
         sized = is.sized ∙ (ap (λ (h : Header). h.page_size) (sym same) ∙ held.sized);

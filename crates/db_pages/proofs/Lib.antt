@@ -5,6 +5,7 @@ pub mod KeptObjects
 pub mod NamedObjects
 pub mod OneDatabase
 pub mod OneRow
+pub mod OneTriggers
 pub mod OneViews
 pub mod ReorderedPairs
 pub mod ReorderedSorted
@@ -27,6 +28,7 @@ pub mod StoredShares
 pub mod StoredTables
 pub mod StoredTreePages
 pub mod StoredTrees
+pub mod StoredTriggers
 pub mod StoredViews
 pub mod ToldDues
 pub mod ToldObjects

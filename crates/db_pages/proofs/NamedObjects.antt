@@ -18,10 +18,11 @@ use Rattle.sqlval.specs.Lists.{any_twice, placed, sorted}
 use Rattle.sqlval.specs.Names.{folded, is_same_name}
 use Rattle.sqlval.specs.declared.value.Value.{Value}
 use Rattle.catalog.specs.Database.{AnIndex, Database, Name, Object, name_order, object, with_object}
-use Rattle.catalog.specs.Listed.{Listed, are_named_once, index_objects, named_among, names_of, objects_of, as_index, table_object, view_object}
+use Rattle.catalog.specs.Listed.{Listed, are_named_once, index_objects, named_among, names_of, objects_of, as_index, table_object, treeless_names, treeless_objects, trigger_object, view_object}
 use Rattle.catalog.specs.Named.{IsNamed}
 use Rattle.catalog.specs.declared.tables.Index.{Index as ListedIndex}
 use Rattle.catalog.specs.declared.tables.Table.{Table}
+use Rattle.catalog.specs.declared.tables.Trigger.{Trigger}
 use Rattle.catalog.specs.declared.tables.View.{View}
 use Rattle.catalog.proofs.NamedDatabases.{keeps_named, one_database}
 use Rattle.db_pages.specs.Reordering.{AreReordered}
@@ -195,22 +196,32 @@ view_names : (views : List View) → own_names (map view_object views) ≡ map (
 view_names [] = refl
 view_names (v ∷ vs) = ap (λ ns. v.definition.name ∷ ns) (view_names vs)
 
+trigger_names : (triggers : List Trigger) → own_names (map trigger_object triggers) ≡ map (λ (t : Trigger). t.definition.name) triggers
+trigger_names [] = refl
+trigger_names (t ∷ ts) = ap (λ ns. t.definition.name ∷ ns) (trigger_names ts)
+
+treeless_named : (l : Listed) → own_names (treeless_objects l) ≡ treeless_names l
+treeless_named l =
+    names_both (map view_object l.views) (map trigger_object l.triggers)
+    ∙ ap (λ ns. ns ++ own_names (map trigger_object l.triggers)) (view_names l.views)
+    ∙ ap (λ ns. map (λ (v : View). v.definition.name) l.views ++ ns) (trigger_names l.triggers)
+
 table_names : (rows_at : ℕ → List (ℤ × List Value)) (tables : List Table) → own_names (map (table_object rows_at) tables) ≡ map (λ (t : Table). t.name) tables
 table_names rows_at [] = refl
 table_names rows_at (t ∷ ts) = ap (λ ns. t.name ∷ ns) (table_names rows_at ts)
 
--- behind the tables: those of views, then those of indexes
-pub behind_names : (l : Listed) → own_names (map view_object l.views ++ flat_map index_objects l.tables)
-    ≡ map (λ (v : View). v.definition.name) l.views ++ flat_map (λ (t : Table). map (λ (i : ListedIndex). i.name) t.indexes) l.tables
+-- behind the tables: those of views and triggers, then those of indexes
+pub behind_names : (l : Listed) → own_names (treeless_objects l ++ flat_map index_objects l.tables)
+    ≡ treeless_names l ++ flat_map (λ (t : Table). map (λ (i : ListedIndex). i.name) t.indexes) l.tables
 behind_names l =
-    names_both (map view_object l.views) (flat_map index_objects l.tables)
-    ∙ ap (λ ns. ns ++ own_names (flat_map index_objects l.tables)) (view_names l.views)
-    ∙ ap (λ ns. map (λ (v : View). v.definition.name) l.views ++ ns) (indexes_names l.tables)
+    names_both (treeless_objects l) (flat_map index_objects l.tables)
+    ∙ ap (λ ns. ns ++ own_names (flat_map index_objects l.tables)) (treeless_named l)
+    ∙ ap (λ ns. treeless_names l ++ ns) (indexes_names l.tables)
 
 names_are : (rows_at : ℕ → List (ℤ × List Value)) (l : Listed) → own_names (objects_of rows_at l) ≡ names_of l
 names_are rows_at l =
-    names_both (map (table_object rows_at) l.tables) (map view_object l.views ++ flat_map index_objects l.tables)
-    ∙ ap (λ ns. ns ++ own_names (map view_object l.views ++ flat_map index_objects l.tables)) (table_names rows_at l.tables)
+    names_both (map (table_object rows_at) l.tables) (treeless_objects l ++ flat_map index_objects l.tables)
+    ∙ ap (λ ns. ns ++ own_names (treeless_objects l ++ flat_map index_objects l.tables)) (table_names rows_at l.tables)
     ∙ ap (λ ns. map (λ (t : Table). t.name) l.tables ++ ns) (behind_names l)
 
 pub is_no : (b : Bool) → not b ≡ true → b ≡ false

@@ -30,12 +30,14 @@ use Rattle.row_scan.specs.Rows.{IsRow, TableRow}
 use Rattle.row_scan.proofs.HeldRows.{same_rows}
 use Rattle.db_layout.specs.Layout.{HoldsUnder, IsTree, Owner}
 use Rattle.db_layout.specs.Trees.{IsRowsTree}
-use Rattle.db_pages.specs.Schema.{IndexTold, IsIndexRow, IsKeyRow, IsTableRow, TableTold, Tells, Told, ViewTold, due_objects, schema_row}
+use Rattle.db_pages.specs.Schema.{IndexTold, IsIndexRow, IsKeyRow, IsTableRow, TableTold, Tells, Told, TriggerTold, ViewTold, due_objects, schema_row}
 use Rattle.db_pages.specs.Standing.{StoredOnce}
 use Rattle.db_pages.specs.Stored.{Stores}
 use Rattle.db_pages.proofs.AlikeTold.{AreAlike, HaveAlikeTables, beside, by_rows, each_pair, same_found, table_found}
 use Rattle.db_pages.proofs.KeptObjects.{named_alike}
 use Rattle.db_pages.proofs.OneRow.{OneText, index_definition_is, no_table_is_index, no_text, one_made, root_is, row_name_is, row_table_is, table_is, text_is}
+use Rattle.db_pages.proofs.OneTriggers as triggers
+use Rattle.db_pages.proofs.OneTriggers.{no_view_beside, triggers_alike}
 use Rattle.db_pages.proofs.OneViews.{no_index_beside, no_table_beside, views_alike}
 use Rattle.db_pages.proofs.StandingTexts.{index_is}
 use Rattle.db_pages.proofs.StandingTrees.{IsTreeTold, in_order_told}
@@ -92,7 +94,7 @@ module _ (trees : OneTree) (texts : OneText) (values : DetermineValues) where
       one_definition : first.definition ≡ second.definition
       one_definition = table_is first.definition second.definition (one_made texts first.sql second.sql (new.Table first.definition) (new.Table second.definition)
           (text_is (codes "table") (codes "table") first.row_is.name second.row_is.name first.row_is.table_name second.row_is.table_name t.root u.root first.sql second.sql row_is)
-          first.creates.0 second.creates.0)
+          first.creates second.creates)
 
       one_root : t.root ≡ u.root
       one_root = root_is (codes "table") (codes "table") first.row_is.name second.row_is.name first.row_is.table_name second.row_is.table_name t.root u.root (Some first.sql) (Some second.sql) row_is
@@ -199,7 +201,7 @@ module _ (trees : OneTree) (texts : OneText) (values : DetermineValues) where
       one_index : first.definition ≡ second.definition
       one_index = index_definition_is first.definition second.definition (one_made texts first.sql second.sql (new.Index first.definition) (new.Index second.definition)
           (text_is (codes "index") (codes "index") first.row_is.name second.row_is.name first.row_is.table_name second.row_is.table_name i.root j.root first.sql second.sql index_row_is)
-          first.creates.0 second.creates.0)
+          first.creates second.creates)
 
       -- on one table they are one
       indexes_alike : HasSameTables → IsKept one.rows_at a (IndexTold t i) → IsKept other.rows_at b (IndexTold u j) → AreAlike one.rows_at other.rows_at (IndexTold t i) (IndexTold u j)
@@ -239,7 +241,7 @@ module _ (trees : OneTree) (texts : OneText) (values : DetermineValues) where
         (text_is (codes "table") (codes "index") first.row_is.name second.row_is.name first.row_is.table_name second.row_is.table_name t.root j.root first.sql second.sql
         (values row.payload (schema_row (codes "table") first.row_is.name first.row_is.table_name t.root (Some first.sql))
         (schema_row (codes "index") second.row_is.name second.row_is.table_name j.root (Some second.sql)) first.row_is.row_is second.row_is.row_is))
-        first.creates.0 second.creates.0)
+        first.creates second.creates)
     apart t u j row first (inr second) =
         no_text (codes "table") (codes "index") first.row_is.name second.row_is.name first.row_is.table_name second.row_is.table_name t.root j.root first.sql
         (values row.payload (schema_row (codes "table") first.row_is.name first.row_is.table_name t.root (Some first.sql))
@@ -252,12 +254,19 @@ module _ (trees : OneTree) (texts : OneText) (values : DetermineValues) where
         let alike = tables_alike t u row first second mine its in (alike, (alike.0, one_due t u row first second))
     alike_first (TableTold t) (IndexTold u j) row first second mine its = apart t u j row first second
     alike_first (TableTold t) (ViewTold w) row first second mine its = no_table_beside texts values row count t w first second
+    alike_first (TableTold t) (TriggerTold h) row first second mine its = triggers.no_table_beside texts values row count t h first second
     alike_first (IndexTold t i) (TableTold u) row first second mine its = apart u t i row second first
     alike_first (IndexTold t i) (IndexTold u j) row first second mine its = (index_names t u i j row first second, tt)
     alike_first (IndexTold t i) (ViewTold w) row first second mine its = no_index_beside texts values row count t i w first second
+    alike_first (IndexTold t i) (TriggerTold h) row first second mine its = triggers.no_index_beside texts values row count t i h first second
     alike_first (ViewTold v) (TableTold u) row first second mine its = no_table_beside texts values row count u v second first
     alike_first (ViewTold v) (IndexTold u j) row first second mine its = no_index_beside texts values row count u j v second first
     alike_first (ViewTold v) (ViewTold w) row first second mine its = (views_alike texts values row v w first second one.rows_at other.rows_at, tt)
+    alike_first (ViewTold v) (TriggerTold h) row first second mine its = no_view_beside texts values row v h first second
+    alike_first (TriggerTold g) (TableTold u) row first second mine its = triggers.no_table_beside texts values row count u g second first
+    alike_first (TriggerTold g) (IndexTold u j) row first second mine its = triggers.no_index_beside texts values row count u j g second first
+    alike_first (TriggerTold g) (ViewTold w) row first second mine its = no_view_beside texts values row w g second first
+    alike_first (TriggerTold g) (TriggerTold h) row first second mine its = (triggers_alike texts values row g h first second one.rows_at other.rows_at, tt)
 
     -- what is known of each in the first and in the second
     abbrev IsKnownHere : Told → Type 0
@@ -271,15 +280,22 @@ module _ (trees : OneTree) (texts : OneText) (values : DetermineValues) where
     alike_then tables dues (TableTold t) (TableTold u) row first second mine its = tables_alike t u row first second mine.0 its.0
     alike_then tables dues (TableTold t) (IndexTold u j) row first second mine its = apart t u j row first second
     alike_then tables dues (TableTold t) (ViewTold w) row first second mine its = no_table_beside texts values row count t w first second
+    alike_then tables dues (TableTold t) (TriggerTold h) row first second mine its = triggers.no_table_beside texts values row count t h first second
     alike_then tables dues (IndexTold t i) (TableTold u) row first second mine its = apart u t i row second first
     alike_then tables dues (IndexTold t i) (IndexTold u j) row (inl first) (inl second) mine its = indexes_alike t u i j row first second tables mine.1 its.1
     alike_then tables dues (IndexTold t i) (IndexTold u j) row (inl first) (inr second) mine its = differ t u i j row first second
     alike_then tables dues (IndexTold t i) (IndexTold u j) row (inr first) (inl second) mine its = differ u t j i row second first
     alike_then tables dues (IndexTold t i) (IndexTold u j) row (inr first) (inr second) mine its = keys_alike t u i j row first second dues mine.2 its.2
     alike_then tables dues (IndexTold t i) (ViewTold w) row first second mine its = no_index_beside texts values row count t i w first second
+    alike_then tables dues (IndexTold t i) (TriggerTold h) row first second mine its = triggers.no_index_beside texts values row count t i h first second
     alike_then tables dues (ViewTold v) (TableTold u) row first second mine its = no_table_beside texts values row count u v second first
     alike_then tables dues (ViewTold v) (IndexTold u j) row first second mine its = no_index_beside texts values row count u j v second first
     alike_then tables dues (ViewTold v) (ViewTold w) row first second mine its = views_alike texts values row v w first second one.rows_at other.rows_at
+    alike_then tables dues (ViewTold v) (TriggerTold h) row first second mine its = no_view_beside texts values row v h first second
+    alike_then tables dues (TriggerTold g) (TableTold u) row first second mine its = triggers.no_table_beside texts values row count u g second first
+    alike_then tables dues (TriggerTold g) (IndexTold u j) row first second mine its = triggers.no_index_beside texts values row count u j g second first
+    alike_then tables dues (TriggerTold g) (ViewTold w) row first second mine its = no_view_beside texts values row w g second first
+    alike_then tables dues (TriggerTold g) (TriggerTold h) row first second mine its = triggers_alike texts values row g h first second one.rows_at other.rows_at
 
     -- the schema table has one list of rows
     one_schema : one.schema ≡ other.schema

@@ -5,6 +5,7 @@ use Rattle.sql_syntax.specs.declared.create.IndexDefinition.{IndexDefinition}
 use Rattle.sql_syntax.specs.declared.create.NewObject.{NewObject}
 use Rattle.sql_syntax.specs.declared.create.NewObject.TheVariants as new
 use Rattle.sql_syntax.specs.declared.create.TableDefinition.{TableDefinition}
+use Rattle.sql_syntax.specs.declared.create.TriggerDefinition.{TriggerDefinition}
 use Rattle.sql_syntax.specs.declared.create.ViewDefinition.{ViewDefinition}
 use Rattle.sql_syntax.specs.declared.statement.Statement.{Statement}
 use Rattle.sql_syntax.specs.declared.statement.Statement.TheVariants as statement
@@ -54,6 +55,18 @@ no_table_is_view c d h = absurd cc
 
 pub no_index_is_view : {A : Type 0} (c : IndexDefinition) (d : ViewDefinition) → new.Index c ≡ new.View d → A
 no_index_is_view c d h = absurd cc
+
+pub trigger_definition_is : (c d : TriggerDefinition) → new.Trigger c ≡ new.Trigger d → c ≡ d
+trigger_definition_is c d h = cc
+
+pub no_table_is_trigger : {A : Type 0} (c : TableDefinition) (d : TriggerDefinition) → new.Table c ≡ new.Trigger d → A
+no_table_is_trigger c d h = absurd cc
+
+pub no_index_is_trigger : {A : Type 0} (c : IndexDefinition) (d : TriggerDefinition) → new.Index c ≡ new.Trigger d → A
+no_index_is_trigger c d h = absurd cc
+
+pub no_view_is_trigger : {A : Type 0} (c : ViewDefinition) (d : TriggerDefinition) → new.View c ≡ new.Trigger d → A
+no_view_is_trigger c d h = absurd cc
 
 -- one text makes one object
 pub one_made : OneText → (sql text : List ℕ) (c d : NewObject) → sql ≡ text → IsCreateOf sql c → IsCreateOf text d → c ≡ d

@@ -27,7 +27,7 @@ module _ (texts : OneText) (values : DetermineValues) (row : Entry) where
     one_view : v.definition ≡ w.definition
     one_view = view_definition_is v.definition w.definition (one_made texts first.sql second.sql (new.View v.definition) (new.View w.definition)
         (text_is (codes "view") (codes "view") first.name second.name first.table_name second.table_name 0 0 first.sql second.sql row_is)
-        first.creates.0 second.creates.0)
+        first.creates second.creates)
 
     -- whatever rows tables have
     pub views_alike : (rows_at others_at : ℕ → List (ℤ × List Value)) → AreAlike rows_at others_at (ViewTold v) (ViewTold w)
@@ -44,7 +44,7 @@ module _ (texts : OneText) (values : DetermineValues) (row : Entry) where
       (text_is (codes "table") (codes "view") first.row_is.name second.name first.row_is.table_name second.table_name t.root 0 first.sql second.sql
       (values row.payload (schema_row (codes "table") first.row_is.name first.row_is.table_name t.root (Some first.sql))
       (schema_row (codes "view") second.name second.table_name 0 (Some second.sql)) first.row_is.row_is second.row_is))
-      first.creates.0 second.creates.0)
+      first.creates second.creates)
 
   pub no_index_beside : {A : Type 0} (pages : ℕ) (t : Table) (i : Index) (w : View) → Tells pages (IndexTold t i) row → IsViewRow w row → A
   no_index_beside pages t i w (inl first) second =
@@ -52,7 +52,7 @@ module _ (texts : OneText) (values : DetermineValues) (row : Entry) where
       (text_is (codes "index") (codes "view") first.row_is.name second.name first.row_is.table_name second.table_name i.root 0 first.sql second.sql
       (values row.payload (schema_row (codes "index") first.row_is.name first.row_is.table_name i.root (Some first.sql))
       (schema_row (codes "view") second.name second.table_name 0 (Some second.sql)) first.row_is.row_is second.row_is))
-      first.creates.0 second.creates.0)
+      first.creates second.creates)
   no_index_beside pages t i w (inr first) second =
       no_text (codes "view") (codes "index") second.name first.row_is.name second.table_name first.row_is.table_name 0 i.root second.sql
       (values row.payload (schema_row (codes "view") second.name second.table_name 0 (Some second.sql))

@@ -1,4 +1,4 @@
--- What the CREATE of a listed table, index or view makes, and that nothing refuses it beside the other objects.
+-- What the CREATE of a listed table, index, view or trigger makes, and that nothing refuses it beside the other objects.
 use Rattle.std.proofs.Common.{◌≡◌, ◌∙◌, refl, sym, ap, ℕ, ℤ, Bool, true, false, cond, List, [], ◌∷◌, map, Option, Some, None}
 use Rattle.std.specs.Prelude.{is_some, not}
 use Rattle.std.specs.FinMap.Entries.{find}
@@ -7,19 +7,20 @@ use Rattle.std.proofs.lemmas.Bool.{false≢true}
 use Rattle.std.proofs.lemmas.Map.Lookups.{exact_bytes}
 use Rattle.std.proofs.lemmas.Map.Views.{tells_apart}
 use Rattle.sqlval.specs.Names.{folded, is_same_name}
-use Rattle.sqlval.specs.Refusals.{Refusal, Exists, Misuse}
+use Rattle.sqlval.specs.Refusals.{Refusal, Exists, Misuse, NoSuch}
 use Rattle.sqlval.specs.declared.collation.Collation.{Collation}
 use Rattle.sqlval.specs.declared.value.Value.{Value}
 use Rattle.sql_syntax.specs.declared.create.IndexDefinition.{IndexDefinition}
 use Rattle.sql_syntax.specs.declared.create.TableDefinition.{TableDefinition}
+use Rattle.sql_syntax.specs.declared.create.TriggerDefinition.{TriggerDefinition}
 use Rattle.catalog.specs.Database as database
-use Rattle.catalog.specs.Database.{ATable, AnIndex, AView, Database, Name, Object, name_order, object, with_object}
+use Rattle.catalog.specs.Database.{ATable, AnIndex, AView, ATrigger, Database, Name, Object, name_order, object, with_object}
 use Rattle.catalog.specs.Listed.{is_reserved, as_index, as_view, names_listed, with_rows}
 use Rattle.catalog.specs.declared.tables.Index.{Index}
 use Rattle.catalog.specs.declared.tables.Table.{Table}
 use Rattle.catalog.specs.declared.tables.View.{View}
 use Rattle.query_names.specs.Checked.{Checked, Meant, also, faults, good, known_map, ◌and_then◌, unless}
-use Rattle.query_names.specs.Schema.{automatic, create_index, create_table, create_view, index_made, view_made, with_objects}
+use Rattle.query_names.specs.Schema.{automatic, create_index, create_table, create_trigger, create_view, index_made, trigger_made, view_made, with_objects}
 use Rattle.query_names.specs.Scopes.{is_doubled}
 use Rattle.query_names.specs.Tables.{table_made}
 use Rattle.query_names.proofs.ColumnNames.{folded_twice}
@@ -50,7 +51,7 @@ is_added f db n o reserved taken free fresh =
     ∙ ap (λ t. known_map f (unless false Misuse (unless (is_some t) Exists (known_map (with_object db n) (good o))))) fresh
 
 -- the others have no object of the name
-none_other : (db : Database) (name : Name) → object (others db name) name ≡ None
+pub none_other : (db : Database) (name : Name) → object (others db name) name ≡ None
 none_other [] name = refl
 none_other (e ∷ es) name = by_test (none_other es name) (is_same_name name e.0) refl
   where
@@ -74,7 +75,7 @@ not_refused db d t keys made free = ap faults (
     ∙ is_added (λ after. with_objects after (automatic d.name 1 keys)) (others db d.name) d.name (ATable t) (is_reserved d.name) (object (others db d.name) d.name) free (none_other db d.name))
 
 -- the others have what another name finds
-other_kept : (db : Database) (name q : Name) → is_same_name name q ≡ false → object (others db name) q ≡ object db q
+pub other_kept : (db : Database) (name q : Name) → is_same_name name q ≡ false → object (others db name) q ≡ object db q
 other_kept [] name q apart = refl
 other_kept (e ∷ es) name q apart = by_test (other_kept es name q apart) (is_same_name name e.0) refl
   where
@@ -145,3 +146,26 @@ view_not_refused db v once free =
     ap faults (
     ap (λ k. unless (is_reserved name) Misuse (unless (is_some (object (others db name) name)) Exists (known_map (with_object (others db name) name) k))) (view_is v once)
     ∙ is_added (λ after. after) (others db name) name (AView (as_view v)) (is_reserved name) (object (others db name) name) free (none_other db name))
+
+-- ---- a trigger
+
+-- it isn't on itself
+pub on_another : (db : Database) (d : TriggerDefinition) → object db d.name ≡ Some (ATrigger d) → trigger_made (object db d.target) d ≡ good (ATrigger d) → is_same_name d.name d.target ≡ false
+on_another db d found made = by_test (is_same_name d.name d.target) refl
+  where
+    no_source : NoSuch ∷ [] ≡ [] → ⊥
+    no_source h = absurd cc
+
+    by_test : (same : Bool) → is_same_name d.name d.target ≡ same → same ≡ false
+    by_test true is =
+        let here : object db d.target ≡ Some (ATrigger d) = ap (λ n. find name_order n db) (sym (named_same d.name d.target is)) ∙ found in
+        absurd (no_source (ap (faults {A = Object}) (ap (λ o. trigger_made o d) (sym here) ∙ made)))
+    by_test false is = refl
+
+-- a definition whose name isn't reserved, and that fits what its ON names, is refused by nothing there
+pub trigger_not_refused : (db : Database) (d : TriggerDefinition) → is_reserved d.name ≡ false → is_same_name d.name d.target ≡ false → trigger_made (object db d.target) d ≡ good (ATrigger d)
+    → faults (create_trigger (others db d.name) d) ≡ []
+trigger_not_refused db d free apart made = ap faults (
+    ap (λ k. unless (is_reserved d.name) Misuse (unless (is_some (object (others db d.name) d.name)) Exists (known_map (with_object (others db d.name) d.name) k)))
+    (ap (λ o. trigger_made o d) (other_kept db d.name d.target apart) ∙ made)
+    ∙ is_added (λ after. after) (others db d.name) d.name (ATrigger d) (is_reserved d.name) (object (others db d.name) d.name) free (none_other db d.name))

@@ -17,11 +17,12 @@ use Rattle.sqlval.specs.declared.fault.Fault.{Fault}
 use Rattle.tree_page.specs.Cells.{Pairwise}
 use Rattle.tree_table.specs.Tree.{IsTableTree}
 use Rattle.tree_index.specs.Tree.{IsIndexTree}
-use Rattle.catalog.specs.Database.{ATable, AnIndex, AView, Database, Name, name_order, object}
+use Rattle.catalog.specs.Database.{ATable, AnIndex, AView, ATrigger, Database, Name, name_order, object}
 use Rattle.catalog.specs.Listed.{Listed, is_table, as_index, as_view, shape_of, with_rows, table_named}
 use Rattle.catalog.specs.Rows.{are_rows}
 use Rattle.catalog.specs.declared.tables.Index.{Index}
 use Rattle.catalog.specs.declared.tables.Table.{Table}
+use Rattle.catalog.specs.declared.tables.Trigger.{Trigger}
 use Rattle.catalog.specs.declared.tables.View.{View}
 use Rattle.catalog.proofs.NamedDatabases.{folded_twice}
 use Rattle.index_entries.specs.Entries.{collations, entries_of_rows}
@@ -31,7 +32,7 @@ use Rattle.db_files.specs.Stands.{IsHeaded, IsShared}
 use Rattle.db_layout.specs.Layout.{IsTree, HoldsUnder, OfRows, Owner, used_by}
 use Rattle.db_layout.specs.Trees.{IsEntriesTree, IsRowsTree, columns_of}
 use Rattle.db_pages.specs.Reordering.{AreReordered}
-use Rattle.db_pages.specs.Schema.{IndexTold, TableTold, Tells, Told, ViewTold, all_told, tables_told}
+use Rattle.db_pages.specs.Schema.{IndexTold, TableTold, Tells, Told, TriggerTold, ViewTold, all_told, tables_told}
 use Rattle.db_pages.specs.Stored.{AreHeld, IsCounted, Stores, all_trees}
 use Rattle.db_pages.proofs.Reordering.{reordered_sym}
 use Rattle.db_pages.proofs.ReorderedPairs.{pairs_both, reordered_count, reordered_pairs}
@@ -84,29 +85,35 @@ fresh_there count n first last = grind (arith, common_steps)
 
 -- ---- the tree of what is told
 
--- what a view has where a table has its tree: no page
-abbrev pub no_tree : View → Owner
-no_tree v = record { root = 0; content = OfRows []; used = [] }
+-- what a view or a trigger has where a table has its tree: no page
+abbrev pub no_tree : {A : Type 0} → A → Owner
+no_tree x = record { root = 0; content = OfRows []; used = [] }
 
--- the trees of tables and of their indexes, and then the views, which have none
-abbrev pub trees_with : List (List Owner) → List View → List Owner
-trees_with held views = all_trees held ++ map no_tree views
+-- those of what has no tree
+abbrev pub no_trees : Listed → List Owner
+no_trees l = map no_tree l.views ++ map no_tree l.triggers
 
-no_pages : (views : List View) → used_by (map no_tree views) ≡ []
-no_pages [] = refl
-no_pages (v ∷ views) = no_pages views
+-- the trees of tables and of their indexes, and then what has none
+abbrev pub trees_with : List (List Owner) → Listed → List Owner
+trees_with held l = all_trees held ++ no_trees l
 
--- views take no page
-used_with : (owners : List Owner) (views : List View) → used_by (owners ++ map no_tree views) ≡ used_by owners
-used_with [] views = no_pages views
-used_with (o ∷ owners) views = ap (λ (ns : List ℕ). o.used ++ ns) (used_with owners views)
+no_pages : (views : List View) (triggers : List Trigger) → used_by (map no_tree views ++ map no_tree triggers) ≡ []
+no_pages [] [] = refl
+no_pages [] (g ∷ triggers) = no_pages [] triggers
+no_pages (v ∷ views) triggers = no_pages views triggers
+
+-- views and triggers take no page
+used_with : (owners : List Owner) (l : Listed) → used_by (owners ++ no_trees l) ≡ used_by owners
+used_with [] l = no_pages l.views l.triggers
+used_with (o ∷ owners) l = ap (λ (ns : List ℕ). o.used ++ ns) (used_with owners l)
 
 module _ (pages : PageMap) (size : ℕ) (rows_at : ℕ → List TableRow) where
-  -- the tree of a table's rows, or of an index's entries, is on the pages; a view has none
+  -- the tree of a table's rows, or of an index's entries, is on the pages; a view or a trigger has none
   abbrev pub IsTreeTold : Told → Owner → Type 0
   IsTreeTold (TableTold t) owner = IsRowsTree t (rows_at t.root) owner × IsTree pages size owner
   IsTreeTold (IndexTold t i) owner = IsEntriesTree (rows_at t.root) i owner × IsTree pages size owner
   IsTreeTold (ViewTold v) owner = owner.used ≡ []
+  IsTreeTold (TriggerTold g) owner = owner.used ≡ []
 
   index_trees : (t : Table) (is : List Index) (owners : List Owner) → Pairwise (IsEntriesTree (rows_at t.root)) is owners → AllByRecursion (IsTree pages size) owners
       → Pairwise IsTreeTold (map (λ (i : Index). IndexTold t i) is) owners
@@ -134,11 +141,16 @@ module _ (pages : PageMap) (size : ℕ) (rows_at : ℕ → List TableRow) where
   views_trees [] = tt
   views_trees (v ∷ views) = (refl, views_trees views)
 
+  triggers_trees : (triggers : List Trigger) → Pairwise IsTreeTold (map TriggerTold triggers) (map no_tree triggers)
+  triggers_trees [] = tt
+  triggers_trees (g ∷ triggers) = (refl, triggers_trees triggers)
+
   -- of all that is told
   trees_told : (l : Listed) (held : List (List Owner)) → Pairwise (AreHeld rows_at) l.tables held → AllByRecursion (IsTree pages size) (all_trees held)
-      → Pairwise IsTreeTold (all_told l) (trees_with held l.views)
+      → Pairwise IsTreeTold (all_told l) (trees_with held l)
   trees_told l held each trees =
-      pairs_both IsTreeTold (tables_told l.tables) (map ViewTold l.views) (all_trees held) (map no_tree l.views) (tables_trees l.tables held each trees) (views_trees l.views)
+      pairs_both IsTreeTold (tables_told l.tables) (map ViewTold l.views ++ map TriggerTold l.triggers) (all_trees held) (no_trees l) (tables_trees l.tables held each trees)
+      (pairs_both IsTreeTold (map ViewTold l.views) (map TriggerTold l.triggers) (map no_tree l.views) (map no_tree l.triggers) (views_trees l.views) (triggers_trees l.triggers))
 
 -- the rows of a listed table are such as it may hold
 pub found_fit : (rows_at : ℕ → List TableRow) (name : Name) (t : Table) (tables : List Table) (held : List (List Owner)) → Pairwise (AreHeld rows_at) tables held
@@ -207,6 +219,11 @@ module _ (pages : PageMap) (size : ℕ) (l : Listed) (db : Database) (stored : S
     found = object_found stored.rows_at db (length pages) (ViewTold v) row tells kept;
     lists = none;
   }
+  told_tree (TriggerTold g) row o tells kept none = record {
+    is = ATrigger g.definition;
+    found = object_found stored.rows_at db (length pages) (TriggerTold g) row tells kept;
+    lists = none;
+  }
 
   pub told_trees : (told : List Told) (rows : List Entry) (owners : List Owner) (tell : Pairwise (Tells (length pages)) told rows) → AllByRecursion (IsKept stored.rows_at db) told
       → Pairwise (IsTreeTold pages size stored.rows_at) told owners → Pairwise (HasTree pages size db) (rows_told (length pages) told rows tell) (useds_of owners)
@@ -217,9 +234,9 @@ module _ (pages : PageMap) (size : ℕ) (l : Listed) (db : Database) (stored : S
   told_trees (one ∷ told) (row ∷ rows) (o ∷ owners) tell kept trees = (told_tree one row o tell.0 kept.0 trees.0, told_trees told rows owners tell.1 kept.1 trees.1)
 
   -- the trees in the order of the rows that tell them
-  pub in_order_told : (owners : List Owner) × Pairwise (IsTreeTold pages size stored.rows_at) stored.tell.told owners × AreReordered (trees_with stored.held l.views) owners
+  pub in_order_told : (owners : List Owner) × Pairwise (IsTreeTold pages size stored.rows_at) stored.tell.told owners × AreReordered (trees_with stored.held l) owners
   in_order_told =
-      reordered_pairs (IsTreeTold pages size stored.rows_at) (all_told l) (trees_with stored.held l.views) stored.tell.told
+      reordered_pairs (IsTreeTold pages size stored.rows_at) (all_told l) (trees_with stored.held l) stored.tell.told
       (trees_told pages size stored.rows_at l stored.held stored.each stored.shared.trees.1) (reordered_sym stored.tell.told (all_told l) stored.tell.all)
 
   pub is_freelist : IsFreelist pages size stored.header.freelist_trunk stored.header.freelist_count stored.shared.has.trunks
@@ -227,13 +244,13 @@ module _ (pages : PageMap) (size : ℕ) (l : Listed) (db : Database) (stored : S
       (one_header (page_at pages 1) stored.shared.has.header stored.header stored.shared.has.header_is stored.header_is) stored.shared.has.listed
 
   -- each page is used once
-  pub is_shared : (owners : List Owner) → AreReordered (trees_with stored.held l.views) owners → IsShared pages (stored.schema_used ++ (flat_map (λ used. used) (useds_of owners) ++ pages_of stored.shared.has.trunks))
+  pub is_shared : (owners : List Owner) → AreReordered (trees_with stored.held l) owners → IsShared pages (stored.schema_used ++ (flat_map (λ used. used) (useds_of owners) ++ pages_of stored.shared.has.trunks))
   is_shared owners same = record {
     once = λ n has. (let all = occurs_append n stored.schema_used (flat_map (λ used. used) (useds_of owners) ++ pages_of stored.shared.has.trunks) in
         let rest = occurs_append n (flat_map (λ used. used) (useds_of owners)) (pages_of stored.shared.has.trunks) in
         let trees = ap (occurs n) (used_flat owners) in
-        let moved = reordered_count n (λ (o : Owner). o.used) (trees_with stored.held l.views) owners same in
-        let no_more = ap (occurs n) (used_with (all_trees stored.held) l.views) in
+        let moved = reordered_count n (λ (o : Owner). o.used) (trees_with stored.held l) owners same in
+        let no_more = ap (occurs n) (used_with (all_trees stored.held) l) in
         let both = occurs_append n stored.schema_used (used_by (all_trees stored.held)) in
         let free = stored.shared.has.free_is n in
         let once = stored.shared.once n in

@@ -1,4 +1,4 @@
--- Tables, indexes and views of different names, where no two trees begin at one page: those of each kind, and what is found under a root.
+-- Tables, indexes, views and triggers of different names, where no two trees begin at one page: those of each kind, and what is found under a root.
 use Rattle.std.proofs.Common.{◌≡◌, ◌≤◌, ◌+◌, ◌==◌, refl, sym, ap, subst, ◌∙◌, append_assoc, ℕ, Bool, true, false, cond, List, [], ◌∷◌, ◌++◌, map, arith}
 use Rattle.std.proofs.lemmas.Bool.{false≢true}
 use Rattle.std.proofs.lemmas.Bool.Decides.{nat_tests}
@@ -15,7 +15,8 @@ use Rattle.db_pages.specs.Reordering.{AreReordered}
 use Rattle.db_pages.proofs.StoredShares.{AllApart}
 use Rattle.db_pages.proofs.StoredNames.{named_same}
 use Rattle.db_pages.proofs.Reordering.{reordered_is}
-use Rattle.db_pages.proofs.StoredListings.{IndexItem, IndexListing, IsIndexListing, IsItem, IsListing, Item, Listing, TableItem, ViewItem, by_kind, index_tree, listed_tree, owners_in, row_of, rows_in}
+use Rattle.db_pages.proofs.StoredListings.{IndexItem, IndexListing, IsIndexListing, IsItem, IsListing, Item, Listing, TableItem, TriggerItem, ViewItem, by_kind, index_tree, listed_tree, owners_in, row_of, rows_in}
+use Rattle.db_pages.proofs.StoredTriggers.{TriggerListing}
 use Rattle.db_pages.proofs.StoredViews.{ViewListing}
 
 -- ---- what holds of each
@@ -57,66 +58,103 @@ pub from_names : (P : Name → Type 0) (items : List Item) → AllByRecursion P 
 from_names P [] h = tt
 from_names P (item ∷ items) h = (h.0, from_names P items h.1)
 
--- ---- tables, indexes and views
+-- ---- those of each kind
 
 abbrev pub tables_among : List Item → List Listing
 tables_among [] = []
 tables_among (TableItem l ∷ items) = l ∷ tables_among items
 tables_among (IndexItem l ∷ items) = tables_among items
 tables_among (ViewItem l ∷ items) = tables_among items
+tables_among (TriggerItem l ∷ items) = tables_among items
 
 abbrev pub indexes_among : List Item → List IndexListing
 indexes_among [] = []
 indexes_among (TableItem l ∷ items) = indexes_among items
 indexes_among (IndexItem l ∷ items) = l ∷ indexes_among items
 indexes_among (ViewItem l ∷ items) = indexes_among items
+indexes_among (TriggerItem l ∷ items) = indexes_among items
 
 abbrev pub views_among : List Item → List ViewListing
 views_among [] = []
 views_among (TableItem l ∷ items) = views_among items
 views_among (IndexItem l ∷ items) = views_among items
 views_among (ViewItem l ∷ items) = l ∷ views_among items
+views_among (TriggerItem l ∷ items) = views_among items
+
+abbrev pub triggers_among : List Item → List TriggerListing
+triggers_among [] = []
+triggers_among (TableItem l ∷ items) = triggers_among items
+triggers_among (IndexItem l ∷ items) = triggers_among items
+triggers_among (ViewItem l ∷ items) = triggers_among items
+triggers_among (TriggerItem l ∷ items) = l ∷ triggers_among items
 
 pub of_tables : (P : Item → Type 0) (items : List Item) → AllByRecursion P items → AllByRecursion (λ l. P (TableItem l)) (tables_among items)
 of_tables P [] all = tt
 of_tables P (TableItem l ∷ items) all = (all.0, of_tables P items all.1)
 of_tables P (IndexItem l ∷ items) all = of_tables P items all.1
 of_tables P (ViewItem l ∷ items) all = of_tables P items all.1
+of_tables P (TriggerItem l ∷ items) all = of_tables P items all.1
 
 pub of_indexes : (P : Item → Type 0) (items : List Item) → AllByRecursion P items → AllByRecursion (λ l. P (IndexItem l)) (indexes_among items)
 of_indexes P [] all = tt
 of_indexes P (TableItem l ∷ items) all = of_indexes P items all.1
 of_indexes P (IndexItem l ∷ items) all = (all.0, of_indexes P items all.1)
 of_indexes P (ViewItem l ∷ items) all = of_indexes P items all.1
+of_indexes P (TriggerItem l ∷ items) all = of_indexes P items all.1
 
 pub of_views : (P : Item → Type 0) (items : List Item) → AllByRecursion P items → AllByRecursion (λ l. P (ViewItem l)) (views_among items)
 of_views P [] all = tt
 of_views P (TableItem l ∷ items) all = of_views P items all.1
 of_views P (IndexItem l ∷ items) all = of_views P items all.1
 of_views P (ViewItem l ∷ items) all = (all.0, of_views P items all.1)
+of_views P (TriggerItem l ∷ items) all = of_views P items all.1
+
+pub of_triggers : (P : Item → Type 0) (items : List Item) → AllByRecursion P items → AllByRecursion (λ l. P (TriggerItem l)) (triggers_among items)
+of_triggers P [] all = tt
+of_triggers P (TableItem l ∷ items) all = of_triggers P items all.1
+of_triggers P (IndexItem l ∷ items) all = of_triggers P items all.1
+of_triggers P (ViewItem l ∷ items) all = of_triggers P items all.1
+of_triggers P (TriggerItem l ∷ items) all = (all.0, of_triggers P items all.1)
 
 pub of_items : (P : Item → Type 0) (items : List Item) → AllByRecursion (λ l. P (TableItem l)) (tables_among items) → AllByRecursion (λ l. P (IndexItem l)) (indexes_among items)
-    → AllByRecursion (λ l. P (ViewItem l)) (views_among items) → AllByRecursion P items
-of_items P [] tables indexes views = tt
-of_items P (TableItem l ∷ items) tables indexes views = (tables.0, of_items P items tables.1 indexes views)
-of_items P (IndexItem l ∷ items) tables indexes views = (indexes.0, of_items P items tables indexes.1 views)
-of_items P (ViewItem l ∷ items) tables indexes views = (views.0, of_items P items tables indexes views.1)
+    → AllByRecursion (λ l. P (ViewItem l)) (views_among items) → AllByRecursion (λ l. P (TriggerItem l)) (triggers_among items) → AllByRecursion P items
+of_items P [] tables indexes views triggers = tt
+of_items P (TableItem l ∷ items) tables indexes views triggers = (tables.0, of_items P items tables.1 indexes views triggers)
+of_items P (IndexItem l ∷ items) tables indexes views triggers = (indexes.0, of_items P items tables indexes.1 views triggers)
+of_items P (ViewItem l ∷ items) tables indexes views triggers = (views.0, of_items P items tables indexes views.1 triggers)
+of_items P (TriggerItem l ∷ items) tables indexes views triggers = (triggers.0, of_items P items tables indexes views triggers.1)
 
--- all items are the tables and the indexes, and then the views, in another order
-pub split_items : {X : Type 0} (f : Listing → X) (g : IndexListing → X) (h : ViewListing → X) (items : List Item)
-    → AreReordered (map (by_kind f g h) items) ((flat_map (λ l. f l ∷ []) (tables_among items) ++ map g (indexes_among items)) ++ map h (views_among items))
-split_items f g h [] = refl
-split_items f g h (TableItem l ∷ items) = ([], (flat_map (λ l. f l ∷ []) (tables_among items) ++ map g (indexes_among items)) ++ map h (views_among items), refl, split_items f g h items)
-split_items f g h (IndexItem l ∷ items) =
-    let tables = flat_map (λ (l : Listing). f l ∷ []) (tables_among items) in
-    let indexes = map g (indexes_among items) in
-    let views = map h (views_among items) in (
-      tables,
-      indexes ++ views,
-      append_assoc tables (g l ∷ indexes) views,
-      reordered_is (map (by_kind f g h) items) ((tables ++ indexes) ++ views) (tables ++ (indexes ++ views)) (append_assoc tables indexes views) (split_items f g h items),
-    )
-split_items f g h (ViewItem l ∷ items) = (flat_map (λ l. f l ∷ []) (tables_among items) ++ map g (indexes_among items), map h (views_among items), refl, split_items f g h items)
+module _ {X : Type 0} (f : Listing → X) (g : IndexListing → X) (h : ViewListing → X) (k : TriggerListing → X) where
+  -- those of tables, and those of what has no tree
+  abbrev of_all_tables : List Item → List X
+  of_all_tables items = flat_map (λ l. f l ∷ []) (tables_among items)
+
+  abbrev of_treeless : List Item → List X
+  of_treeless items = map h (views_among items) ++ map k (triggers_among items)
+
+  abbrev in_parts : List Item → List X
+  in_parts items = (of_all_tables items ++ map g (indexes_among items)) ++ of_treeless items
+
+  -- all items are the tables and the indexes, and then the views and the triggers, in another order
+  pub split_items : (items : List Item) → AreReordered (map (by_kind f g h k) items) (in_parts items)
+  split_items [] = refl
+  split_items (TableItem l ∷ items) = ([], in_parts items, refl, split_items items)
+  split_items (IndexItem l ∷ items) = (
+    of_all_tables items,
+    map g (indexes_among items) ++ of_treeless items,
+    append_assoc (of_all_tables items) (g l ∷ map g (indexes_among items)) (of_treeless items),
+    reordered_is (map (by_kind f g h k) items) (in_parts items) (of_all_tables items ++ (map g (indexes_among items) ++ of_treeless items))
+        (append_assoc (of_all_tables items) (map g (indexes_among items)) (of_treeless items)) (split_items items),
+  )
+  split_items (ViewItem l ∷ items) = (of_all_tables items ++ map g (indexes_among items), of_treeless items, refl, split_items items)
+  split_items (TriggerItem l ∷ items) =
+      let front = of_all_tables items ++ map g (indexes_among items) in (
+        front ++ map h (views_among items),
+        map k (triggers_among items),
+        sym (append_assoc front (map h (views_among items)) (k l ∷ map k (triggers_among items))),
+        reordered_is (map (by_kind f g h k) items) (in_parts items) ((front ++ map h (views_among items)) ++ map k (triggers_among items))
+            (sym (append_assoc front (map h (views_among items)) (map k (triggers_among items)))) (split_items items),
+      )
 
 -- and all trees are those of tables and those of indexes
 pub split_trees : (items : List Item) → AreReordered (owners_in items) (flat_map (λ l. listed_tree l ∷ []) (tables_among items) ++ map index_tree (indexes_among items))
@@ -124,6 +162,7 @@ split_trees [] = refl
 split_trees (TableItem l ∷ items) = ([], flat_map (λ l. listed_tree l ∷ []) (tables_among items) ++ map index_tree (indexes_among items), refl, split_trees items)
 split_trees (IndexItem l ∷ items) = (flat_map (λ l. listed_tree l ∷ []) (tables_among items), map index_tree (indexes_among items), refl, split_trees items)
 split_trees (ViewItem l ∷ items) = split_trees items
+split_trees (TriggerItem l ∷ items) = split_trees items
 
 -- ---- different names
 
@@ -149,6 +188,7 @@ module _ (pages : PageMap) (size : ℕ) (db : Database) where
   )
   names_apart (IndexItem l ∷ items) each apart = names_apart items each.1 apart.1
   names_apart (ViewItem l ∷ items) each apart = names_apart items each.1 apart.1
+  names_apart (TriggerItem l ∷ items) each apart = names_apart items each.1 apart.1
 
 pub other_name : (a b : Name) → (folded a ≡ folded b → ⊥) → is_same_name a b ≡ false
 other_name a b other = by_test (is_same_name a b) refl
@@ -208,6 +248,7 @@ fewer_roots n [] = omega arith
 fewer_roots n (TableItem l ∷ items) = let rest = fewer_roots n items in omega (arith, rest)
 fewer_roots n (IndexItem l ∷ items) = let rest = fewer_roots n items in let fewer = fewer_after n l.index.root (roots_in items) in omega (arith, rest, fewer)
 fewer_roots n (ViewItem l ∷ items) = fewer_roots n items
+fewer_roots n (TriggerItem l ∷ items) = fewer_roots n items
 
 -- what the first table of this root has
 abbrev pub at_root : {A : Type 0} → (Listing → A) → A → List Listing → ℕ → A

@@ -24,8 +24,8 @@ use Rattle.query_names.specs.Schema.{automatic}
 use Rattle.query_names.specs.Tables.{affinity_known, collation_of, column_of, default_of, is_not_null, last_of, table_made}
 use Rattle.query_names.proofs.CreatedTables.{IsAccepted, accepted, listed_made}
 use Rattle.db_files.specs.Schema.{SchemaRow, IsTableRow, automatic_indexes}
-use Rattle.db_pages.specs.Language.{others, supported_language}
-use Rattle.db_pages.specs.Schema.{CreatesSupported}
+use Rattle.db_pages.specs.Language.{others, language}
+use Rattle.db_pages.specs.Schema.{IsCreateOf}
 use Rattle.db_pages.proofs.StoredIndexes.{Keys, key_for, same_keys}
 
 -- ---- the table of a definition
@@ -99,7 +99,7 @@ keys_so d is =
 
 -- ---- what its row says
 
--- The row has the text of a CREATE TABLE that is supported and isn't refused; it makes this table, and the automatic indexes of the database.
+-- The row has the text of a CREATE TABLE that isn't refused; it makes this table, and the automatic indexes of the database.
 pub record IsTold (db : Database) (row : SchemaRow) (t : database.Table) : Type 0 where
   pub definition : TableDefinition
   pub sql : List ℕ
@@ -107,7 +107,7 @@ pub record IsTold (db : Database) (row : SchemaRow) (t : database.Table) : Type 
   pub kind_is : row.kind ≡ codes "table"
   pub name_is : folded row.name ≡ folded definition.name
   pub table_is : folded row.table ≡ folded definition.name
-  pub creates : CreatesSupported sql (new.Table definition)
+  pub creates : IsCreateOf sql (new.Table definition)
   pub accepts : IsAccepted definition
   pub described_is : map described (map column_for definition.columns) ≡ map defined definition.columns
   pub checks_are : checks_known definition (map column_for definition.columns) ≡ good (checks_for definition)
@@ -125,7 +125,7 @@ both_made : (d : TableDefinition) (t : database.Table) (keys : List Keys) (root 
 both_made d t keys root rowid is made =
     ap (meant {A = Made}) (sym (listed_made d (table_of d root rowid) is.once (described_so d.columns is.known) (keys_so d is) (checks_so d is)) ∙ made)
 
-pub told : (db : Database) (row : SchemaRow) (t : database.Table) → IsTableRow supported_language db row t → IsTold db row t
+pub told : (db : Database) (row : SchemaRow) (t : database.Table) → IsTableRow language db row t → IsTold db row t
 told db row t is =
     let accepts : IsAccepted is.definition = accepted (others db is.definition.name) is.definition is.text.accepts in
     record {

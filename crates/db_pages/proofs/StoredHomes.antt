@@ -7,14 +7,16 @@ use Rattle.std.specs.Prelude.{⊤}
 use Rattle.sqlval.specs.Names.{folded, is_same_name}
 use Rattle.pages.specs.Map.{PageMap}
 use Rattle.catalog.specs.Database as database
-use Rattle.catalog.specs.Database.{Name, Database, Object, ATable, AnIndex, AView, name_order, object}
+use Rattle.catalog.specs.Database.{Name, Database, Object, ATable, AnIndex, AView, ATrigger, name_order, object}
 use Rattle.catalog.specs.Listed.{Listed, as_view, table_named}
+use Rattle.sql_syntax.specs.declared.create.TriggerDefinition.{TriggerDefinition}
 use Rattle.catalog.specs.declared.tables.Table.{Table}
+use Rattle.catalog.specs.declared.tables.Trigger.{Trigger}
 use Rattle.catalog.specs.declared.tables.View.{View}
 use Rattle.db_pages.proofs.StoredShares.{GoesWithOne, theirs}
 use Rattle.db_pages.proofs.StoredNames.{Misses, named_same, same_named, same_some, some_is_none}
-use Rattle.db_pages.proofs.StoredListings.{IndexItem, IndexListing, IsIndexListing, IsItem, IsListing, IsViewListing, Item, Listing, TableItem, ViewItem, index_there, row_of, rows_in}
-use Rattle.db_pages.proofs.StoredApart.{NamesApart, all_both, all_so, indexes_among, of_indexes, of_items, of_tables, of_views, onto_names, other_name, row_names, row_named, tables_among, views_among}
+use Rattle.db_pages.proofs.StoredListings.{IndexItem, IndexListing, IsIndexListing, IsItem, IsListing, IsTriggerListing, IsViewListing, Item, Listing, TableItem, TriggerItem, ViewItem, index_there, row_of, rows_in}
+use Rattle.db_pages.proofs.StoredApart.{NamesApart, all_both, all_so, indexes_among, of_indexes, of_items, of_tables, of_triggers, of_views, onto_names, other_name, row_names, row_named, tables_among, triggers_among, views_among}
 
 -- the index is on the table
 abbrev pub is_on : Listing → IndexListing → Bool
@@ -32,9 +34,13 @@ tables_in items = map (with_indexes (indexes_among items)) (tables_among items)
 abbrev pub views_in : List Item → List View
 views_in items = map (λ l. l.view) (views_among items)
 
+-- and the triggers
+abbrev pub triggers_in : List Item → List Trigger
+triggers_in items = map (λ l. l.trigger) (triggers_among items)
+
 -- all that the items tell
 abbrev pub all_listed : List Item → Listed
-all_listed items = record { tables = tables_in items; views = views_in items }
+all_listed items = record { tables = tables_in items; views = views_in items; triggers = triggers_in items }
 
 -- what holds of all indexes on a table
 pub all_theirs : (P : IndexListing → Type 0) (l : Listing) (indexes : List IndexListing) → AllByRecursion (λ i. is_on l i ≡ true → P i) indexes → AllByRecursion P (theirs is_on indexes l)
@@ -112,6 +118,9 @@ table_is_index t i e = absurd cc
 table_is_view : {B : Type 0} (t : database.Table) (v : database.View) → Some (ATable t) ≡ Some (AView v) → B
 table_is_view t v e = absurd cc
 
+table_is_trigger : {B : Type 0} (t : database.Table) (d : TriggerDefinition) → Some (ATable t) ≡ Some (ATrigger d) → B
+table_is_trigger t d e = absurd cc
+
 -- its table is one of them
 pub record IsHome (items : List Item) (i : IndexListing) : Type 0 where
   pub t : Table
@@ -122,6 +131,7 @@ abbrev pub HasHome : List Item → Item → Type 0
 HasHome items (TableItem l) = ⊤
 HasHome items (IndexItem i) = IsHome items i
 HasHome items (ViewItem l) = ⊤
+HasHome items (TriggerItem l) = ⊤
 
 module _ (pages : PageMap) (size : ℕ) (db : Database) (items : List Item) (each : AllByRecursion (IsItem pages size db) items)
     (missed : (q : Name) → Misses q (row_names (rows_in items)) → find name_order q db ≡ None) where
@@ -138,7 +148,10 @@ module _ (pages : PageMap) (size : ℕ) (db : Database) (items : List Item) (eac
       (of_indexes (IsItem pages size db) items each))
       (all_so (IsViewListing db) (λ l. folded name ≡ folded l.row.name → ⊥)
       (λ l is same. table_is_view t (as_view l.view) (sym found ∙ (ap (λ n. find name_order n db) same ∙ is.found))) (views_among items)
-      (of_views (IsItem pages size db) items each)))))
+      (of_views (IsItem pages size db) items each))
+      (all_so (IsTriggerListing db) (λ l. folded name ≡ folded l.row.name → ⊥)
+      (λ l is same. table_is_trigger t l.trigger.definition (sym found ∙ (ap (λ n. find name_order n db) same ∙ is.found))) (triggers_among items)
+      (of_triggers (IsItem pages size db) items each)))))
 
   pub home : (i : IndexListing) → IsIndexListing pages size db i → IsHome items i
   home i is = by_found (table_named i.on (tables_in items)) refl

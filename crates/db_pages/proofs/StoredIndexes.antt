@@ -17,8 +17,8 @@ use Rattle.query_names.specs.Schema.{create, index_made, resolve_index_column}
 use Rattle.query_names.specs.Scopes.{is_doubled}
 use Rattle.query_bind.specs.Indexed.{key_of, names_in}
 use Rattle.db_files.specs.Schema.{SchemaRow, IsIndexRow}
-use Rattle.db_pages.specs.Language.{others, supported_language}
-use Rattle.db_pages.specs.Schema.{CreatesSupported}
+use Rattle.db_pages.specs.Language.{others, language}
+use Rattle.db_pages.specs.Schema.{IsCreateOf}
 
 -- ---- the index of a definition
 
@@ -47,7 +47,7 @@ same_keys (key ∷ keys) = ap (λ ks. key ∷ ks) (same_keys keys)
 abbrev pub index_on : IndexDefinition → Keys → database.Index
 index_on d keys = record { table = folded d.table; is_unique = d.is_unique; is_automatic = false; columns = keys }
 
--- The row has the text of a CREATE INDEX that is supported and isn't refused; it makes this index, on a table of the database.
+-- The row has the text of a CREATE INDEX that isn't refused; it makes this index, on a table of the database.
 pub record IsIndexTold (db : Database) (row : SchemaRow) (i : database.Index) : Type 0 where
   pub definition : IndexDefinition
   pub sql : List ℕ
@@ -55,7 +55,7 @@ pub record IsIndexTold (db : Database) (row : SchemaRow) (i : database.Index) : 
   pub kind_is : row.kind ≡ codes "index"
   pub name_is : folded row.name ≡ folded definition.name
   pub table_is : folded row.table ≡ folded definition.table
-  pub creates : CreatesSupported sql (new.Index definition)
+  pub creates : IsCreateOf sql (new.Index definition)
   pub free : is_reserved definition.name ≡ false
   pub once : is_doubled (names_in definition.columns) ≡ false
   pub t : database.Table
@@ -120,7 +120,7 @@ made_of d i (Meant keys rs) e =
     value_of : Checked Object → Object
     value_of (Meant x rs) = x
 
-pub index_told : (db : Database) (row : SchemaRow) (i : database.Index) → IsIndexRow supported_language db row i → IsIndexTold db row i
+pub index_told : (db : Database) (row : SchemaRow) (i : database.Index) → IsIndexRow language db row i → IsIndexTold db row i
 index_told db row i is =
     let d = is.definition in
     let quiet_is = accepted (others db d.name) d is.text.accepts in

@@ -1,6 +1,6 @@
--- What the rows of the schema table tell: tables with their rows and trees, indexes with theirs, and views.
+-- What the rows of the schema table tell: tables with their rows and trees, indexes with theirs, views and triggers.
 use Rattle.std.proofs.Common.{◌≡◌, ◌⊎◌, ◌==◌, refl, sym, ap, subst, ◌∙◌, ℕ, ℤ, Bool, true, false, codes, List, [], ◌∷◌, ◌++◌, length, map, Option, Some, None, inl, inr}
-use Rattle.std.proofs.lemmas.Bool.{eqb-true, false≢true}
+use Rattle.std.proofs.lemmas.Bool.{eqb-true}
 use Rattle.std.proofs.lemmas.List.{length-map}
 use Rattle.std.specs.FinMap.Entries.{find}
 use Rattle.std.specs.List.{AllByRecursion, flat_map, list_all}
@@ -26,10 +26,11 @@ use Rattle.db_files.specs.Schema.{IsAutomaticRow, IsSchemaEntry, IsViewRow, Sche
 use Rattle.db_layout.specs.Layout.{OfEntries, OfRows, Owner, used_by}
 use Rattle.db_layout.specs.Trees.{columns_of}
 use Rattle.row_scan.specs.Rows.{IsRow, TableRow}
-use Rattle.db_pages.specs.Language.{supported_language}
+use Rattle.db_pages.specs.Language.{language}
 use Rattle.db_pages.proofs.StoredNames.{first_of, found_among, same_some, second_of}
 use Rattle.db_pages.proofs.StoredDefinitions.{IsTold, table_of, told}
 use Rattle.db_pages.proofs.StoredIndexes.{IsIndexTold, index_of, index_of_row, index_told, same_keys}
+use Rattle.db_pages.proofs.StoredTriggers.{IsTriggerTold, TriggerListing, trigger_of, trigger_told}
 use Rattle.db_pages.proofs.StoredViews.{IsViewTold, ViewListing, view_is, view_of, view_told}
 
 -- ---- listings
@@ -55,12 +56,14 @@ pub data Item : Type 0 where
   TableItem : Listing → Item
   IndexItem : IndexListing → Item
   ViewItem : ViewListing → Item
+  TriggerItem : TriggerListing → Item
 
--- of a table, of an index, or of a view
-abbrev pub by_kind : {X : Type 0} → (Listing → X) → (IndexListing → X) → (ViewListing → X) → Item → X
-by_kind f g h (TableItem l) = f l
-by_kind f g h (IndexItem l) = g l
-by_kind f g h (ViewItem l) = h l
+-- of a table, of an index, of a view, or of a trigger
+abbrev pub by_kind : {X : Type 0} → (Listing → X) → (IndexListing → X) → (ViewListing → X) → (TriggerListing → X) → Item → X
+by_kind f g h k (TableItem l) = f l
+by_kind f g h k (IndexItem l) = g l
+by_kind f g h k (ViewItem l) = h l
+by_kind f g h k (TriggerItem l) = k l
 
 -- The database has the table with these rows, which are such as it may hold and stand in its tree.
 pub record IsListing (pages : PageMap) (size : ℕ) (db : Database) (l : Listing) : Type 0 where
@@ -107,20 +110,28 @@ pub record IsViewListing (db : Database) (l : ViewListing) : Type 0 where
   pub says : IsViewTold l.row l.view.definition
   pub found : object db l.row.name ≡ Some (AView (as_view l.view))
 
+-- The database has the trigger, as its row tells it.
+pub record IsTriggerListing (db : Database) (l : TriggerListing) : Type 0 where
+  pub says : IsTriggerTold db l.row l.trigger.definition
+  pub found : object db l.row.name ≡ Some (ATrigger l.trigger.definition)
+
 abbrev pub IsItem : PageMap → ℕ → Database → Item → Type 0
 IsItem pages size db (TableItem l) = IsListing pages size db l
 IsItem pages size db (IndexItem l) = IsIndexListing pages size db l
 IsItem pages size db (ViewItem l) = IsViewListing db l
+IsItem pages size db (TriggerItem l) = IsTriggerListing db l
 
 abbrev pub row_of : Item → SchemaRow
 row_of (TableItem l) = l.row
 row_of (IndexItem l) = l.row
 row_of (ViewItem l) = l.row
+row_of (TriggerItem l) = l.row
 
 abbrev pub rowid_of : Item → ℤ
 rowid_of (TableItem l) = l.table.rowid
 rowid_of (IndexItem l) = l.index.rowid
 rowid_of (ViewItem l) = l.view.rowid
+rowid_of (TriggerItem l) = l.trigger.rowid
 
 -- its tree
 abbrev pub listed_tree : Listing → Owner
@@ -131,11 +142,11 @@ index_tree l = record { root = l.index.root; content = OfEntries (collations (co
 
 -- its tree, if it has one
 abbrev pub owners_of : Item → List Owner
-owners_of item = by_kind (λ l. listed_tree l ∷ []) (λ l. index_tree l ∷ []) (λ l. []) item
+owners_of item = by_kind (λ l. listed_tree l ∷ []) (λ l. index_tree l ∷ []) (λ l. []) (λ l. []) item
 
 -- the pages of its tree
 abbrev pub pages_of : Item → List ℕ
-pages_of item = by_kind (λ l. l.used) (λ l. l.used) (λ l. []) item
+pages_of item = by_kind (λ l. l.used) (λ l. l.used) (λ l. []) (λ l. []) item
 
 -- the rows, and the trees of all
 abbrev pub rows_in : List Item → List SchemaRow
@@ -149,6 +160,7 @@ used_more : (item : Item) (owners : List Owner) → pages_of item ++ used_by own
 used_more (TableItem l) owners = refl
 used_more (IndexItem l) owners = refl
 used_more (ViewItem l) owners = refl
+used_more (TriggerItem l) owners = refl
 
 -- ---- rows
 
@@ -269,7 +281,7 @@ module _ (pages : PageMap) (size : ℕ) (db : Database) (row : SchemaRow) (i : d
 -- ---- the row of a view
 
 -- a view of the database, as its row in the schema table tells it
-module _ (db : Database) (row : SchemaRow) (v : database.View) (found : object db row.name ≡ Some (AView v)) (says : IsViewRow supported_language db row v) (rowid : ℤ) where
+module _ (db : Database) (row : SchemaRow) (v : database.View) (found : object db row.name ≡ Some (AView v)) (says : IsViewRow language db row v) (rowid : ℤ) where
   abbrev pub its_view : ViewListing
   its_view = record { view = view_of says.definition rowid; row = row }
 
@@ -302,7 +314,7 @@ record Tells (pages : PageMap) (size : ℕ) (db : Database) (rowid : ℤ) (row :
   rowid_is : rowid ≡ rowid_of item
 
 tells : (pages : PageMap) (size : ℕ) (db : Database) → is_in_order db ≡ true → (rowid : ℤ) (row : SchemaRow) (used : List ℕ) (o : Object) → object db row.name ≡ Some o
-    → IsRowOfObject supported_language db row o → HasPages pages size row.root db o used → Tells pages size db rowid row used
+    → IsRowOfObject language db row o → HasPages pages size row.root db o used → Tells pages size db rowid row used
 tells pages size db in_order rowid row used (ATable t) found says lists =
     let is = told db row t says in
     record {
@@ -335,10 +347,16 @@ tells pages size db in_order rowid row used (AView v) found says none = record {
   used_is = none;
   rowid_is = refl;
 }
-tells pages size db in_order rowid row used (ATrigger t) found says lists = absurd (false≢true says.text.creates.1)
+tells pages size db in_order rowid row used (ATrigger d) found says none = record {
+  item = TriggerItem (record { trigger = trigger_of d rowid; row = row });
+  is = record { says = trigger_told db row d says; found = found };
+  row_is = refl;
+  used_is = none;
+  rowid_is = refl;
+}
 
 pub listings : (pages : PageMap) (size : ℕ) (db : Database) → is_in_order db ≡ true → (entries : List Entry) (rows : List SchemaRow) (useds : List (List ℕ))
-    → Pairwise IsSchemaEntry entries rows → AllByRecursion (IsSchemaRowOf supported_language db) rows → Pairwise (HasTree pages size db) rows useds → AreListings pages size db entries rows useds
+    → Pairwise IsSchemaEntry entries rows → AllByRecursion (IsSchemaRowOf language db) rows → Pairwise (HasTree pages size db) rows useds → AreListings pages size db entries rows useds
 listings pages size db in_order (entry ∷ entries) [] useds read each trees = absurd read
 listings pages size db in_order [] (row ∷ rows) useds read each trees = absurd read
 listings pages size db in_order [] [] [] read each trees = record { items = []; rows_are = refl; each = tt; used = refl; at_rowids = tt }

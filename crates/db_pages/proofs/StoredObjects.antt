@@ -1,5 +1,5 @@
--- The database of the tables, indexes and views that the schema's rows tell: its objects, by their names.
-use Rattle.std.proofs.Common.{◌≡◌, ◌⊎◌, inl, inr, refl, sym, ap, ap₂, subst, ◌∙◌, ℕ, Bool, true, false, not, ◌&&◌, ◌||◌, cond, List, [], ◌∷◌, ◌++◌, map, flat_map, Option, Some, None}
+-- The database of the tables, indexes, views and triggers that the schema's rows tell: its objects, by their names.
+use Rattle.std.proofs.Common.{◌≡◌, ◌⊎◌, inl, inr, refl, sym, ap, ap₂, subst, ◌∙◌, ℕ, Bool, true, false, not, ◌||◌, cond, List, [], ◌∷◌, ◌++◌, map, flat_map, Option, Some, None}
 use Rattle.std.proofs.lemmas.Bool.{false≢true}
 use Rattle.std.specs.FinMap.Entries.{find}
 use Rattle.std.specs.List as list
@@ -8,15 +8,17 @@ use Rattle.std.specs.Prelude.{option_map}
 use Rattle.sqlval.specs.Lists.{any_twice, is_rising, sorted}
 use Rattle.sqlval.specs.Names.{folded, is_same_name}
 use Rattle.pages.specs.Map.{PageMap}
-use Rattle.catalog.specs.Database.{Name, Database, Object, ATable, AnIndex, AView, name_order, object}
-use Rattle.catalog.specs.Listed.{Listed, Lists, are_named_once, has_no_trigger, index_objects, is_no_trigger, named_among, names_of, as_index, as_view, with_rows, table_named, view_object}
+use Rattle.catalog.specs.Database.{Name, Database, Object, ATable, AnIndex, name_order, object}
+use Rattle.catalog.specs.Listed.{Listed, Lists, are_named_once, index_objects, named_among, names_of, as_index, with_rows, table_named, treeless_names, treeless_objects, trigger_object, view_object}
 use Rattle.catalog.specs.Named.{IsNamed, IsOfListed}
 use Rattle.catalog.specs.Rows.{holds_rows, is_in_order}
 use Rattle.catalog.specs.declared.tables.Index.{Index}
 use Rattle.catalog.specs.declared.tables.Table.{Table}
+use Rattle.catalog.specs.declared.tables.Trigger.{Trigger}
 use Rattle.catalog.specs.declared.tables.View.{View}
 use Rattle.catalog.proofs.Found.{as_object, behind_found, listed_as}
 use Rattle.query_names.proofs.ColumnNames.{folded_twice}
+use Rattle.query_bind.specs.Triggers.{FitsTarget, KnowsTriggers}
 use Rattle.db_files.specs.Schema.{SchemaRow, automatic_indexes}
 use Rattle.db_layout.specs.Trees.{columns_of}
 use Rattle.row_scan.specs.Rows.{TableRow}
@@ -26,11 +28,11 @@ use Rattle.db_pages.proofs.NamedObjects.{behind_names, one_among, own_names}
 use Rattle.db_pages.proofs.Reordering.{reordered_all, reordered_map}
 use Rattle.db_pages.proofs.SortedObjects.{HaveFoldedNames, by_name}
 use Rattle.db_pages.proofs.StoredShares.{AllApart, GoesWithOne, apart_reordered, theirs}
-use Rattle.db_pages.proofs.StoredNames.{Misses, all_sorted, each_found, first_of, missed, names_in, rising_different, named_same, same_named, same_some, some_is_none}
-use Rattle.db_pages.proofs.StoredListings.{IndexItem, IndexListing, IsIndexListing, IsItem, IsListing, IsOfKey, IsOfText, IsViewListing, Item, Listing, TableItem, ViewItem, by_kind, index_there, row_of, rows_in}
-use Rattle.db_pages.proofs.StoredApart.{NamesApart, RootsApart, Stands, all_both, all_joined, all_parts, all_so, all_stand, content_at, from_map, index_row_named, indexes_among, of_indexes, of_items, of_tables, of_views, onto_map, onto_names, other_name, row_named, row_names, tables_among, views_among}
-use Rattle.db_pages.proofs.StoredHomes.{HasHome, IsFoundIn, IsFoundWith, IsHome, all_listed, all_theirs, each_found as all_found, found_with, home, is_on, none_named, on_one, tables_in, views_in, with_indexes}
-use Rattle.db_pages.proofs.StoredOrders.{index_name, names_reordered, table_name, view_name}
+use Rattle.db_pages.proofs.StoredNames.{Misses, all_sorted, first_of, missed, names_in, named_same, same_named, some_is_none}
+use Rattle.db_pages.proofs.StoredListings.{IndexItem, IndexListing, IsIndexListing, IsItem, IsListing, IsOfKey, IsOfText, IsTriggerListing, IsViewListing, Item, Listing, TableItem, TriggerItem, ViewItem, by_kind, row_of, rows_in}
+use Rattle.db_pages.proofs.StoredApart.{NamesApart, RootsApart, Stands, all_both, all_joined, all_parts, all_so, all_stand, content_at, from_map, index_row_named, indexes_among, of_indexes, of_items, of_tables, of_triggers, of_views, onto_map, onto_names, other_name, row_named, row_names, tables_among, triggers_among, views_among}
+use Rattle.db_pages.proofs.StoredHomes.{HasHome, IsFoundIn, IsFoundWith, IsHome, all_listed, all_theirs, each_found as all_found, found_with, home, is_on, none_named, on_one, tables_in, triggers_in, views_in, with_indexes}
+use Rattle.db_pages.proofs.StoredOrders.{index_name, names_reordered, table_name, trigger_name, view_name}
 
 -- ---- names of rows and of objects
 
@@ -51,7 +53,7 @@ onto_objects P (e ∷ es) h = (h.0, onto_objects P es h.1)
 
 -- ---- the database
 
--- These are the tables, indexes and views of the database, and each table has a tree of its own.
+-- These are the tables, indexes, views and triggers of the database, and each table has a tree of its own.
 pub record AreObjects (pages : PageMap) (size : ℕ) (db : Database) (items : List Item) : Type 0 where
   pub each : AllByRecursion (IsItem pages size db) items
   pub apart : AllApart (row_names (rows_in items))
@@ -59,13 +61,6 @@ pub record AreObjects (pages : PageMap) (size : ℕ) (db : Database) (items : Li
   pub roots : RootsApart (tables_among items)
   pub names : IsNamedBy (rows_in items) db
   pub in_order : is_in_order db ≡ true
-
-abbrev IsPlain : Object → Type 0
-IsPlain o = is_no_trigger o ≡ true
-
-all_plain : (es : Database) → AllByRecursion (λ e. IsPlain e.1) es → has_no_trigger es ≡ true
-all_plain [] h = refl
-all_plain (e ∷ es) h = subst (λ b. (b && list_all (λ (o : Name × Object). is_no_trigger o.1) es) ≡ true) (sym h.0) (all_plain es h.1)
 
 -- an index under its name
 abbrev object_of : List IndexListing → Listing → IndexListing → Name × Object
@@ -99,12 +94,12 @@ none_of name (o ∷ os) none = by_test (none_of name os) (is_same_name o.0 name)
     by_test rest true is none = some_is_none o.1 none
     by_test rest false is none = ((λ same. false≢true (sym is ∙ same_named o.0 name same)), rest none)
 
--- where none is found behind the tables, no view and no index has the name
+-- where none is found behind the tables, no view, no trigger and no index has the name
 none_behind : (name : Name) (l : Listed) → behind_found name l ≡ None
-    → AllByRecursion (Others name) (map (λ v. v.definition.name) l.views ++ flat_map (λ t. map (λ i. i.name) t.indexes) l.tables)
+    → AllByRecursion (Others name) (treeless_names l ++ flat_map (λ t. map (λ i. i.name) t.indexes) l.tables)
 none_behind name l none =
     subst (λ (ns : List Name). AllByRecursion (Others name) ns) (behind_names l)
-    (none_of name (map view_object l.views ++ flat_map index_objects l.tables) none)
+    (none_of name (treeless_objects l ++ flat_map index_objects l.tables) none)
 
 -- names whose folded ones differ
 any_named : (name : Name) (names : List Name) → AllByRecursion (λ n. folded name ≡ n → ⊥) (map folded names) → list_any (is_same_name name) names ≡ false
@@ -133,6 +128,9 @@ module _ (pages : PageMap) (size : ℕ) (db : Database) (items : List Item) (are
   each_view : AllByRecursion (IsViewListing db) (views_among items)
   each_view = of_views (IsItem pages size db) items are.each
 
+  each_trigger : AllByRecursion (IsTriggerListing db) (triggers_among items)
+  each_trigger = of_triggers (IsItem pages size db) items are.each
+
   pub stand : AllByRecursion (Stands pages size db tables) tables
   stand = all_stand pages size db tables each_table are.roots
 
@@ -143,6 +141,7 @@ module _ (pages : PageMap) (size : ℕ) (db : Database) (items : List Item) (are
   pub homes_all : AllByRecursion (HasHome items) items
   homes_all = of_items (HasHome items) items (all_so (IsListing pages size db) (λ l. HasHome items (TableItem l)) (λ l is. tt) tables each_table) homes_are
       (all_so (IsViewListing db) (λ l. HasHome items (ViewItem l)) (λ l is. tt) (views_among items) each_view)
+      (all_so (IsTriggerListing db) (λ l. HasHome items (TriggerItem l)) (λ l is. tt) (triggers_among items) each_trigger)
 
   -- each index is on one table
   pub on_ones : AllByRecursion (λ i. GoesWithOne is_on i tables) indexes
@@ -156,22 +155,7 @@ module _ (pages : PageMap) (size : ℕ) (db : Database) (items : List Item) (are
         (onto_names (λ n. folded n ≡ n) items (all_so (IsItem pages size db) (λ item. folded (folded (row_of item).name) ≡ folded (row_of item).name) (λ item is. folded_twice (row_of item).name) items are.each)));
   }
 
-  -- ---- no triggers
-
-  plain_item : (item : Item) → IsItem pages size db item → (o : Object) → find name_order (folded (row_of item).name) db ≡ Some o → IsPlain o
-  plain_item (TableItem l) is o found = subst IsPlain (same_some (ATable (with_rows l.table l.content)) o (sym is.found ∙ found)) refl
-  plain_item (IndexItem l) is o found = subst IsPlain (same_some (AnIndex (index_there l)) o (sym is.found ∙ found)) refl
-  plain_item (ViewItem l) is o found = subst IsPlain (same_some (AView (as_view l.view)) o (sym is.found ∙ found)) refl
-
-  pub has_none : has_no_trigger db ≡ true
-  has_none =
-      all_plain db (all_both (λ e. find name_order e.0 db ≡ Some e.1) (λ e. (o : Object) → find name_order e.0 db ≡ Some o → IsPlain o) (λ e. IsPlain e.1) (λ e found is. is e.1 found) db
-      (each_found (λ q o. find name_order q db ≡ Some o) db (rising_different (names_in db) named.rising) (λ q o found. found))
-      (onto_objects (λ n. (o : Object) → find name_order n db ≡ Some o → IsPlain o) db (all_names (λ n. (o : Object) → find name_order n db ≡ Some o → IsPlain o) (rows_in items) db are.names
-      (onto_names (λ n. (o : Object) → find name_order n db ≡ Some o → IsPlain o) items
-      (all_so (IsItem pages size db) (λ item. (o : Object) → find name_order (folded (row_of item).name) db ≡ Some o → IsPlain o) plain_item items are.each)))))
-
-  -- ---- tables, indexes and views by their names
+  -- ---- objects by their names
 
   index_is : (l : Listing) (i : IndexListing) → IsIndexListing pages size db i → is_on l i ≡ true → IsObject db (object_of indexes l i)
   index_is l i is on =
@@ -197,6 +181,17 @@ module _ (pages : PageMap) (size : ℕ) (db : Database) (items : List Item) (are
       onto_map (IsObject db) view_object (views_in items) (onto_map (λ (v : View). IsObject db (view_object v)) (λ l. l.view) (views_among items)
       (all_so (IsViewListing db) (λ l. IsObject db (view_object l.view)) (λ l is. ap (λ n. find name_order n db) (sym is.says.name_is) ∙ is.found) (views_among items) each_view))
 
+  -- and all triggers
+  triggers_are : AllByRecursion (IsObject db) (map trigger_object (triggers_in items))
+  triggers_are =
+      onto_map (IsObject db) trigger_object (triggers_in items) (onto_map (λ (g : Trigger). IsObject db (trigger_object g)) (λ l. l.trigger) (triggers_among items)
+      (all_so (IsTriggerListing db) (λ l. IsObject db (trigger_object l.trigger)) (λ l is. ap (λ n. find name_order n db) (sym is.says.name_is) ∙ is.found) (triggers_among items) each_trigger))
+
+  behind_are : AllByRecursion (IsObject db) (treeless_objects (all_listed items) ++ flat_map index_objects (tables_in items))
+  behind_are =
+      all_joined (IsObject db) (treeless_objects (all_listed items)) (flat_map index_objects (tables_in items))
+      (all_joined (IsObject db) (map view_object (views_in items)) (map trigger_object (triggers_in items)) views_are triggers_are) indexes_are
+
   -- a listed table is found in the database
   found_listed : (name : Name) (t : Table) → IsFoundWith indexes (Stands pages size db tables) name t → object db name ≡ Some (ATable (with_rows t (content_at tables t.root)))
   found_listed name t f =
@@ -204,14 +199,15 @@ module _ (pages : PageMap) (size : ℕ) (db : Database) (items : List Item) (are
       ∙ (f.holds.is.found ∙ (ap (λ (rows : List TableRow). Some (ATable (with_rows f.l.table rows))) (sym f.holds.content_is)
       ∙ ap (λ (u : Table). Some (ATable (with_rows u (content_at tables u.root)))) f.table_is))
 
-  -- what no table, index or view has as its name is no name of the database
+  -- what none of them has as its name is no name of the database
   abbrev own_name : Item → Name
-  own_name item = by_kind table_name index_name view_name item
+  own_name item = by_kind table_name index_name view_name trigger_name item
 
   own_named : (item : Item) → IsItem pages size db item → folded (row_of item).name ≡ folded (own_name item)
   own_named (TableItem l) is = row_named pages size db l is
   own_named (IndexItem l) is = index_row_named pages size db l is
   own_named (ViewItem l) is = is.says.name_is
+  own_named (TriggerItem l) is = is.says.name_is
 
   not_listed : (name : Name) → table_named name (tables_in items) ≡ None → behind_found name (all_listed items) ≡ None → object db name ≡ None
   not_listed name no_table none =
@@ -219,7 +215,7 @@ module _ (pages : PageMap) (size : ℕ) (db : Database) (items : List Item) (are
       (all_both (IsItem pages size db) (λ item. Others name (own_name item)) (λ item. folded name ≡ folded (row_of item).name → ⊥)
       (λ item is other same. other (sym (same ∙ own_named item is))) items are.each
       (from_map (Others name) own_name items (reordered_all (Others name) (map own_name items) (names_of (all_listed items)) (names_reordered items on_ones)
-      (all_joined (Others name) (map (λ t. t.name) (tables_in items)) (map (λ v. v.definition.name) (views_in items) ++ flat_map (λ t. map (λ i. i.name) t.indexes) (tables_in items))
+      (all_joined (Others name) (map (λ t. t.name) (tables_in items)) (treeless_names (all_listed items) ++ flat_map (λ t. map (λ i. i.name) t.indexes) (tables_in items))
       (onto_map (Others name) (λ (t : Table). t.name) (tables_in items) (onto_map (λ (t : Table). Others name t.name) (with_indexes indexes) tables (none_named indexes tables name no_table)))
       (none_behind name (all_listed items) none))))))
 
@@ -230,9 +226,7 @@ module _ (pages : PageMap) (size : ℕ) (db : Database) (items : List Item) (are
       behind = behind_found name (all_listed items)
 
       by_behind : (found : Option Object) → table_named name (tables_in items) ≡ None → behind_found name (all_listed items) ≡ found → object db name ≡ found
-      by_behind (Some o) none found =
-          found_object db name (map view_object (views_in items) ++ flat_map index_objects (tables_in items)) o
-          (all_joined (IsObject db) (map view_object (views_in items)) (flat_map index_objects (tables_in items)) views_are indexes_are) found
+      by_behind (Some o) none found = found_object db name (treeless_objects (all_listed items) ++ flat_map index_objects (tables_in items)) o behind_are found
       by_behind None none found = not_listed name none found
 
       by_found : (found : Option Table) → table_named name (tables_in items) ≡ found → object db name ≡ as_object (content_at tables) behind (table_named name (tables_in items))
@@ -254,7 +248,16 @@ module _ (pages : PageMap) (size : ℕ) (db : Database) (items : List Item) (are
       (subst (λ (ns : List Name). AllApart ns) (same_names items are.each) are.apart)))
 
   pub of_these : IsOfListed (content_at tables) (all_listed items) db
-  of_these = record { lists = lists; quiet = has_none; named = named; once = once_named }
+  of_these = record { lists = lists; named = named; once = once_named }
+
+  -- ---- what triggers are on
+
+  -- each trigger fits what its ON names beside what is listed
+  pub fit_targets : KnowsTriggers → AllByRecursion (λ g. FitsTarget (all_listed items) g.definition) (triggers_in items)
+  fit_targets knows =
+      onto_map (λ (g : Trigger). FitsTarget (all_listed items) g.definition) (λ l. l.trigger) (triggers_among items)
+      (all_so (IsTriggerListing db) (λ l. FitsTarget (all_listed items) l.trigger.definition)
+      (λ l is. sym (knows (content_at tables) (all_listed items) db l.trigger.definition lists) ∙ is.says.fits) (triggers_among items) each_trigger)
 
   -- ---- the indexes that keys ask for
 

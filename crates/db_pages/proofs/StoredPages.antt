@@ -11,10 +11,11 @@ use Rattle.pages.specs.Map.{Has, PageMap, page_at}
 use Rattle.tree_page.specs.Cells.{Pairwise}
 use Rattle.catalog.specs.Database.{Database, Name, name_order}
 use Rattle.catalog.specs.Rows.{holds_rows}
+use Rattle.query_bind.specs.Triggers.{KnowsTriggers}
 use Rattle.db_layout.specs.Layout.{AreShared, IsTree, Owner, used_by}
 use Rattle.db_files.specs.Schema.{IsSchemaEntry, SchemaRow}
 use Rattle.db_files.specs.Stands.{StandsFor}
-use Rattle.db_pages.specs.Language.{supported_language}
+use Rattle.db_pages.specs.Language.{language}
 use Rattle.db_pages.specs.Reordering.{AreReordered}
 use Rattle.db_pages.specs.Standing.{StandingStored}
 use Rattle.db_pages.specs.Stored.{Stores, all_trees, schema_tree}
@@ -25,7 +26,7 @@ use Rattle.db_pages.proofs.StoredNames.{first_of, names_in, sorted_different}
 use Rattle.db_pages.proofs.StoredApart.{content_at, fewer_roots, indexes_among, names_apart, none_there, roots_apart, roots_in, row_names, table_roots, tables_among}
 use Rattle.db_pages.proofs.StoredHomes.{all_listed, each_found}
 use Rattle.db_pages.proofs.StoredListings.{AreListings, Item, listings, owners_in, rows_in}
-use Rattle.db_pages.proofs.StoredObjects.{AreObjects, each_index, has_keys, homes_all, of_these, on_ones, stand}
+use Rattle.db_pages.proofs.StoredObjects.{AreObjects, each_index, fit_targets, has_keys, homes_all, of_these, on_ones, stand}
 use Rattle.db_pages.proofs.StoredOrders.{held_by, told_of, told_reordered, trees_reordered}
 use Rattle.db_pages.proofs.StoredTables.{IsAfterFirst, each_after, once, rows_told}
 use Rattle.db_pages.proofs.StoredTreePages.{free_there, owner_there, root_used}
@@ -67,7 +68,7 @@ once_or_not pages n count once there = elim (cases_lt 0 count) [
 fresh_once : (count n : ℕ) → fresh 0 count n ≤ 1
 fresh_once count n = grind (arith, common_steps)
 
-module _ (pages : PageMap) (size : ℕ) (db : Database) (stands : StandsFor supported_language size pages db) where
+module _ (knows : KnowsTriggers) (pages : PageMap) (size : ℕ) (db : Database) (stands : StandsFor language size pages db) where
   -- what the schema rows tell
   pub told_items : AreListings pages size db stands.schema.entries stands.rows stands.trees_used
   told_items =
@@ -108,7 +109,7 @@ module _ (pages : PageMap) (size : ℕ) (db : Database) (stands : StandsFor supp
   counted n = once_or_not pages n (occurs n stands.schema_used + occurs n (used_by (owners_in items)) + occurs n free)
       (λ has. sym (all_used n) ∙ stands.shared.once n has) (each_there n)
 
-  -- ---- tables, indexes and views
+  -- ---- what the rows tell
 
   after_first : AllByRecursion IsAfterFirst items
   after_first =
@@ -168,6 +169,7 @@ module _ (pages : PageMap) (size : ℕ) (db : Database) (stands : StandsFor supp
     of_listed = of_these pages size db items are_objects;
     once = once pages size db items are_objects;
     keys = has_keys pages size db items are_objects;
+    targets = fit_targets pages size db items are_objects knows;
     header = stands.header;
     header_is = stands.headed.header_is;
     sized = stands.headed.size_is;
@@ -185,5 +187,5 @@ module _ (pages : PageMap) (size : ℕ) (db : Database) (stands : StandsFor supp
     shared = shared;
   }
 
-pub stored_if_standing : StandingStored
-stored_if_standing pages size db stands = (all_listed (told_items pages size db stands).items, stores pages size db stands)
+pub stored_if_standing : KnowsTriggers → StandingStored
+stored_if_standing knows pages size db stands = (all_listed (told_items knows pages size db stands).items, stores knows pages size db stands)

@@ -1,4 +1,4 @@
--- The rows of the schema table tell the tables, indexes and views that they list.
+-- The rows of the schema table tell the tables, indexes, views and triggers that they list.
 use Rattle.std.proofs.Common.{◌≡◌, ◌<◌, ◌⊎◌, inl, inr, refl, sym, ap, subst, ◌∙◌, ℕ, pos, Bool, true, false, cond, List, [], ◌∷◌, codes, length, map, Option, Some, None, arith}
 use Rattle.std.proofs.lemmas.Bool.{ltb-true, ltb-false}
 use Rattle.std.specs.List.{AllByRecursion}
@@ -23,15 +23,16 @@ use Rattle.query_names.proofs.CreatedTables.{keeps_once}
 use Rattle.query_bind.specs.Indexed.{key_of, keys_known}
 use Rattle.db_files.specs.Schema.{SchemaRow, IsSchemaEntry, sql_value}
 use Rattle.std.specs.FinMap.Entries.{find}
-use Rattle.db_pages.specs.Schema.{HasRowOf, IsIndexRow, IsKeyRow, IsTableRow, IsViewRow, Tells, schema_row}
+use Rattle.db_pages.specs.Schema.{HasRowOf, IsIndexRow, IsKeyRow, IsTableRow, IsTriggerRow, IsViewRow, Tells, schema_row}
 use Rattle.db_pages.proofs.StoredNames.{same_named, some_is_none}
 use Rattle.db_pages.proofs.StoredIndexes.{Keys, same_keys}
-use Rattle.db_pages.proofs.StoredListings.{IndexItem, IndexListing, IsEntryOf, IsIndexListing, IsItem, IsListing, IsOfKey, IsOfText, IsViewListing, Item, Listing, TableItem, ViewItem, index_tree, listed_tree, row_of, rows_in}
+use Rattle.db_pages.proofs.StoredListings.{IndexItem, IndexListing, IsEntryOf, IsIndexListing, IsItem, IsListing, IsOfKey, IsOfText, IsTriggerListing, IsViewListing, Item, Listing, TableItem, TriggerItem, ViewItem, index_tree, listed_tree, row_of, rows_in}
 use Rattle.db_pages.proofs.StoredApart.{Stands, indexes_among, roots_in, row_named, tables_among}
 use Rattle.db_pages.proofs.StoredHomes.{HasHome, IsFoundWith, found_with, tables_in, with_indexes}
 use Rattle.db_pages.proofs.StoredObjects.{AreObjects, stand}
 use Rattle.db_pages.proofs.StoredOrders.{no_table, table_for, told_of}
 use Rattle.db_pages.proofs.StoredTreePages.{owner_root_there}
+use Rattle.db_pages.proofs.StoredTriggers.{TriggerListing}
 use Rattle.db_pages.proofs.StoredViews.{ViewListing}
 
 -- ---- the schema's rows
@@ -51,6 +52,7 @@ abbrev pub IsAfterFirst : Item → Type 0
 IsAfterFirst (TableItem l) = 1 ≡ l.table.root → ⊥
 IsAfterFirst (IndexItem l) = 1 ≡ l.index.root → ⊥
 IsAfterFirst (ViewItem l) = ⊤
+IsAfterFirst (TriggerItem l) = ⊤
 
 -- no tree begins there where none of the roots is 1
 pub each_after : (items : List Item) → AllByRecursion (λ root. 1 ≡ root → ⊥) (roots_in items) → AllByRecursion IsAfterFirst items
@@ -58,6 +60,7 @@ each_after [] after = tt
 each_after (TableItem l ∷ items) after = (after.0, each_after items after.1)
 each_after (IndexItem l ∷ items) after = (after.0, each_after items after.1)
 each_after (ViewItem l ∷ items) after = (tt, each_after items after)
+each_after (TriggerItem l ∷ items) after = (tt, each_after items after)
 
 root_above : (pages : PageMap) (root : ℕ) → Has pages root → (1 ≡ root → ⊥) → 1 < root
 root_above pages root has ne = by_test (nat_lt 1 root) refl
@@ -167,6 +170,19 @@ module _ (pages : PageMap) (size : ℕ) (db : Database) (items : List Item) (are
     row_is = values_so l.row entry (codes "view") (Some is.says.sql) 0 is.says.kind_is is.says.root_is is.says.sql_is read;
   }
 
+  trigger_row : (l : TriggerListing) (entry : Entry) → IsTriggerListing db l → IsSchemaEntry entry l.row → IsEntryOf entry (TriggerItem l) → IsTriggerRow l.trigger entry
+  trigger_row l entry is read at = record {
+    sql = is.says.sql;
+    creates = is.says.creates;
+    free = is.says.free;
+    rowid_is = at;
+    name = l.row.name;
+    name_is = is.says.name_is;
+    target_name = l.row.table;
+    target_name_is = is.says.table_is;
+    row_is = values_so l.row entry (codes "trigger") (Some is.says.sql) 0 is.says.kind_is is.says.root_is is.says.sql_is read;
+  }
+
   told_row : (item : Item) (entry : Entry) → IsItem pages size db item → HasHome items item → IsAfterFirst item → IsSchemaEntry entry (row_of item) → IsEntryOf entry item
       → Tells (length pages) (told_of items item) entry
   told_row (TableItem l) entry is home after read at = table_row l entry is after read at
@@ -182,6 +198,7 @@ module _ (pages : PageMap) (size : ℕ) (db : Database) (items : List Item) (are
       by_row l table on (inl text) = inl (index_row i entry l table on is text after read at)
       by_row l table on (inr key) = inr (key_row i entry l on is key after read at)
   told_row (ViewItem l) entry is home after read at = view_row l entry is read at
+  told_row (TriggerItem l) entry is home after read at = trigger_row l entry is read at
 
   pub rows_told : (some : List Item) (entries : List Entry) → AllByRecursion (IsItem pages size db) some → AllByRecursion (HasHome items) some → AllByRecursion IsAfterFirst some
       → Pairwise IsSchemaEntry entries (rows_in some) → Pairwise IsEntryOf entries some → Pairwise (Tells (length pages)) (map (told_of items) some) entries

@@ -19,7 +19,7 @@ use Rattle.db_layout.specs.Trees.{IsEntriesTree, columns_of}
 use Rattle.db_pages.specs.Stored.{AreHeld}
 use Rattle.db_pages.proofs.StoredNames.{named_same}
 use Rattle.db_pages.proofs.StoredShares.{theirs}
-use Rattle.db_pages.proofs.StoredListings.{IndexItem, IndexListing, IsIndexListing, IsItem, Item, Listing, TableItem, ViewItem, index_tree, listed_tree, owners_in}
+use Rattle.db_pages.proofs.StoredListings.{IndexItem, IndexListing, IsIndexListing, IsItem, Item, Listing, TableItem, TriggerItem, ViewItem, index_tree, listed_tree, owners_in}
 use Rattle.db_pages.proofs.StoredApart.{Stands, all_so, content_at, row_named}
 use Rattle.db_pages.proofs.StoredHomes.{all_theirs, is_on, with_indexes}
 use Rattle.db_pages.proofs.StoredTreePages.{owner_there, root_used}
@@ -30,6 +30,7 @@ trees_in pages size db [] each = tt
 trees_in pages size db (TableItem l ∷ items) each = (each.0.tree, trees_in pages size db items each.1)
 trees_in pages size db (IndexItem l ∷ items) each = (each.0.tree, trees_in pages size db items each.1)
 trees_in pages size db (ViewItem l ∷ items) each = trees_in pages size db items each.1
+trees_in pages size db (TriggerItem l ∷ items) each = trees_in pages size db items each.1
 
 one_at : (n m : ℕ) (if_same : Bool) → (m == n) ≡ if_same → (c : ℕ) → (n ≡ m → 1 ≤ c) → cond {A = ℕ} if_same 1 0 ≤ c
 one_at n m true e c has = has (grind (arith, nat_tests))

@@ -13,8 +13,8 @@ use Rattle.query_names.specs.Checked.{Checked, Meant, faults, good, known_map, m
 use Rattle.query_names.specs.Schema.{create, view_made}
 use Rattle.query_names.specs.Scopes.{is_doubled}
 use Rattle.db_files.specs.Schema.{SchemaRow, IsViewRow}
-use Rattle.db_pages.specs.Language.{others, supported_language}
-use Rattle.db_pages.specs.Schema.{CreatesSupported}
+use Rattle.db_pages.specs.Language.{others, language}
+use Rattle.db_pages.specs.Schema.{IsCreateOf}
 use Rattle.db_pages.proofs.StoredIndexes.{quiet}
 
 -- a view, and the schema's row that tells it
@@ -26,7 +26,7 @@ pub record ViewListing : Type 0 where
 abbrev pub view_of : ViewDefinition → ℤ → View
 view_of d rowid = record { definition = d; rowid = rowid }
 
--- The row has the text of a CREATE VIEW that is supported and isn't refused, and no page.
+-- The row has the text of a CREATE VIEW that isn't refused, and no page.
 pub record IsViewTold (row : SchemaRow) (d : ViewDefinition) : Type 0 where
   pub sql : List ℕ
   pub sql_is : row.sql ≡ Some sql
@@ -34,13 +34,13 @@ pub record IsViewTold (row : SchemaRow) (d : ViewDefinition) : Type 0 where
   pub name_is : folded row.name ≡ folded d.name
   pub table_is : folded row.table ≡ folded d.name
   pub root_is : row.root ≡ 0
-  pub creates : CreatesSupported sql (new.View d)
+  pub creates : IsCreateOf sql (new.View d)
   pub free : is_reserved d.name ≡ false
   pub once : is_doubled (names_listed d) ≡ false
 
 -- ---- definitions that aren't refused
 
-not_mapped : (f : Object → Database) (k : Checked Object) → faults (known_map f k) ≡ [] → faults k ≡ []
+pub not_mapped : (f : Object → Database) (k : Checked Object) → faults (known_map f k) ≡ [] → faults k ≡ []
 not_mapped f (Meant x rs) none = none
 
 -- the name may be given, and no name is listed twice
@@ -53,7 +53,7 @@ accepted db d none =
     made_view : ViewDefinition → Object
     made_view d = AView (record { columns = map folded (names_listed d); query = d.query })
 
-pub view_told : (db : Database) (row : SchemaRow) (v : database.View) → (is : IsViewRow supported_language db row v) → IsViewTold row is.definition
+pub view_told : (db : Database) (row : SchemaRow) (v : database.View) → (is : IsViewRow language db row v) → IsViewTold row is.definition
 view_told db row v is =
     let accepts = accepted (others db is.definition.name) is.definition is.text.accepts in
     record {

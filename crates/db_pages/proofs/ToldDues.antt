@@ -8,14 +8,15 @@ use Rattle.catalog.specs.Database.{AnIndex, Database, Name, name_order}
 use Rattle.catalog.specs.Listed.{Listed, as_index, named_among, table_named}
 use Rattle.catalog.specs.declared.tables.Index.{Index}
 use Rattle.catalog.specs.declared.tables.Table.{Table}
-use Rattle.db_pages.specs.Schema.{HasKeyIndexes, IndexTold, due_objects}
+use Rattle.catalog.specs.declared.tables.Trigger.{Trigger}
+use Rattle.db_pages.specs.Schema.{HasKeyIndexes, IndexTold, TriggerTold, due_objects}
 use Rattle.db_pages.specs.Stored.{Stores}
 use Rattle.db_pages.proofs.AutomaticObjects.{each_due, each_named}
 use Rattle.db_pages.proofs.StoredApart.{all_both, all_so}
 use Rattle.db_pages.proofs.StoredNames.{sorted_different}
 use Rattle.db_pages.proofs.StoredShares.{AllApart}
 use Rattle.db_pages.proofs.ToldObjects.{told_name, told_names}
-use Rattle.db_pages.proofs.ToldTables.{IsDueAmong, OfTable, due_named, dues_found, told_each}
+use Rattle.db_pages.proofs.ToldTables.{IsDueAmong, OfTable, due_named, dues_found, each_of, told_each}
 
 module _ (pages : PageMap) (size : ℕ) (l : Listed) (db : Database) (stored : Stores pages size l db) where
   -- no two rows tell one name
@@ -40,4 +41,4 @@ module _ (pages : PageMap) (size : ℕ) (l : Listed) (db : Database) (stored : S
       (all_both IsFoundWithKeys (λ (t : Table). due_named t.name stored.tell.told ≡ Some (due_objects t)) (OfTable (IsDueAmong stored.tell.told)) of_table l.tables
       (all_both HasKeyIndexes (λ (t : Table). table_named t.name l.tables ≡ Some t) IsFoundWithKeys (λ t has found. (has, found)) l.tables stored.keys (each_named stored.rows_at l db stored.of_listed))
       (dues_found l stored.tell.told stored.tell.all names_apart))
-      (λ v. tt)
+      (λ v. tt) (each_of (λ (g : Trigger). IsDueAmong stored.tell.told (TriggerTold g)) (λ g. tt) l.triggers)

@@ -1,19 +1,20 @@
--- What rows tell, as the objects of a database: in whatever order the rows stand, each table, index and view is found under its own name.
-use Rattle.std.proofs.Common.{◌≡◌, ◌∙◌, refl, sym, ap, ℕ, ℤ, List, [], ◌∷◌, ◌++◌, map, Some}
+-- What rows tell, as the objects of a database: in whatever order the rows stand, each of them is found under its own name.
+use Rattle.std.proofs.Common.{◌≡◌, ◌∙◌, refl, sym, ap, ap₂, ℕ, ℤ, List, [], ◌∷◌, ◌++◌, map, Some}
 use Rattle.std.specs.Prelude.{flat_map}
 use Rattle.std.specs.List.{AllByRecursion}
 use Rattle.std.proofs.lemmas.List.{append_assoc}
 use Rattle.sqlval.specs.Lists.{sorted}
 use Rattle.sqlval.specs.Names.{folded}
 use Rattle.sqlval.specs.declared.value.Value.{Value}
-use Rattle.catalog.specs.Database.{ATable, AnIndex, AView, Database, Name, Object, name_order, object}
-use Rattle.catalog.specs.Listed.{Listed, index_objects, named_among, objects_of, as_index, as_view, with_rows, table_object, view_object}
+use Rattle.catalog.specs.Database.{ATable, AnIndex, AView, ATrigger, Database, Name, Object, name_order, object}
+use Rattle.catalog.specs.Listed.{Listed, index_objects, named_among, objects_of, as_index, as_view, with_rows, table_object, treeless_objects, trigger_object, view_object}
 use Rattle.catalog.specs.Named.{IsOfListed}
 use Rattle.catalog.specs.declared.tables.Index.{Index}
 use Rattle.catalog.specs.declared.tables.Table.{Table}
+use Rattle.catalog.specs.declared.tables.Trigger.{Trigger}
 use Rattle.catalog.specs.declared.tables.View.{View}
 use Rattle.db_pages.specs.Reordering.{AreReordered}
-use Rattle.db_pages.specs.Schema.{IndexTold, TableTold, Told, ViewTold, all_told, tables_told, told_by}
+use Rattle.db_pages.specs.Schema.{IndexTold, TableTold, Told, TriggerTold, ViewTold, all_told, tables_told, told_by}
 use Rattle.db_pages.proofs.NamedObjects.{HaveOwnNames, each_found, folded_names, named_reordered, names_sorted, objects_apart}
 use Rattle.db_pages.proofs.Reordering.{all_reordered, reordered_both, reordered_front, reordered_is, reordered_map, reordered_refl, reordered_swapped, reordered_sym, reordered_trans, is_reordered}
 use Rattle.db_pages.proofs.ReorderedSorted.{reordered_sorted}
@@ -23,12 +24,14 @@ abbrev pub told_name : Told → Name
 told_name (TableTold t) = t.name
 told_name (IndexTold t i) = i.name
 told_name (ViewTold v) = v.definition.name
+told_name (TriggerTold t) = t.definition.name
 
 -- the object that it tells, where these are the rows under each root
 abbrev pub told_object : (ℕ → List (ℤ × List Value)) → Told → Object
 told_object rows_at (TableTold t) = ATable (with_rows t (rows_at t.root))
 told_object rows_at (IndexTold t i) = AnIndex (as_index t i)
 told_object rows_at (ViewTold v) = AView (as_view v)
+told_object rows_at (TriggerTold t) = ATrigger t.definition
 
 abbrev pub told_pair : (ℕ → List (ℤ × List Value)) → Told → Name × Object
 told_pair rows_at told = (told_name told, told_object rows_at told)
@@ -38,6 +41,7 @@ abbrev pub IsKept : (ℕ → List (ℤ × List Value)) → Database → Told →
 IsKept rows_at db (TableTold t) = object db t.name ≡ Some (ATable (with_rows t (rows_at t.root)))
 IsKept rows_at db (IndexTold t i) = (object db i.name ≡ Some (AnIndex (as_index t i))) × (object db t.name ≡ Some (ATable (with_rows t (rows_at t.root))))
 IsKept rows_at db (ViewTold v) = object db v.definition.name ≡ Some (AView (as_view v))
+IsKept rows_at db (TriggerTold t) = object db t.definition.name ≡ Some (ATrigger t.definition)
 
 -- ---- all that is told is the objects, in another order
 
@@ -82,26 +86,36 @@ view_pairs : (rows_at : ℕ → List (ℤ × List Value)) (views : List View) �
 view_pairs rows_at [] = refl
 view_pairs rows_at (v ∷ vs) = ap (λ ls. view_object v ∷ ls) (view_pairs rows_at vs)
 
--- and the views, which stand between them
+trigger_pairs : (rows_at : ℕ → List (ℤ × List Value)) (triggers : List Trigger) → map (told_pair rows_at) (map TriggerTold triggers) ≡ map trigger_object triggers
+trigger_pairs rows_at [] = refl
+trigger_pairs rows_at (t ∷ ts) = ap (λ ls. trigger_object t ∷ ls) (trigger_pairs rows_at ts)
+
+treeless_pairs : (rows_at : ℕ → List (ℤ × List Value)) (l : Listed) → map (told_pair rows_at) (map ViewTold l.views ++ map TriggerTold l.triggers) ≡ treeless_objects l
+treeless_pairs rows_at l =
+    pairs_both rows_at (map ViewTold l.views) (map TriggerTold l.triggers)
+    ∙ ap₂ (λ (os ps : List (Name × Object)). os ++ ps) (view_pairs rows_at l.views) (trigger_pairs rows_at l.triggers)
+
+-- and what has no tree, which stands between them
 pub told_objects : (rows_at : ℕ → List (ℤ × List Value)) (l : Listed) → AreReordered (map (told_pair rows_at) (all_told l)) (objects_of rows_at l)
 told_objects rows_at l =
-    is_reordered (map (told_pair rows_at) (tables_told l.tables) ++ views) (map (told_pair rows_at) (all_told l)) (objects_of rows_at l) apart
-    (reordered_trans (map (told_pair rows_at) (tables_told l.tables) ++ views) ((tables ++ indexes) ++ views) (objects_of rows_at l)
-    (reordered_both (map (told_pair rows_at) (tables_told l.tables)) (tables ++ indexes) views views (tables_pairs rows_at l.tables) (reordered_refl views))
-    (is_reordered (tables ++ (indexes ++ views)) ((tables ++ indexes) ++ views) (objects_of rows_at l) (sym (append_assoc tables indexes views))
-    (reordered_both tables tables (indexes ++ views) (views ++ indexes) (reordered_refl tables) (reordered_swapped indexes views))))
+    is_reordered (map (told_pair rows_at) (tables_told l.tables) ++ treeless) (map (told_pair rows_at) (all_told l)) (objects_of rows_at l) apart
+    (reordered_trans (map (told_pair rows_at) (tables_told l.tables) ++ treeless) ((tables ++ indexes) ++ treeless) (objects_of rows_at l)
+    (reordered_both (map (told_pair rows_at) (tables_told l.tables)) (tables ++ indexes) treeless treeless (tables_pairs rows_at l.tables) (reordered_refl treeless))
+    (is_reordered (tables ++ (indexes ++ treeless)) ((tables ++ indexes) ++ treeless) (objects_of rows_at l) (sym (append_assoc tables indexes treeless))
+    (reordered_both tables tables (indexes ++ treeless) (treeless ++ indexes) (reordered_refl tables) (reordered_swapped indexes treeless))))
   where
     tables : List (Name × Object)
     tables = map (table_object rows_at) l.tables
 
-    views : List (Name × Object)
-    views = map view_object l.views
+    treeless : List (Name × Object)
+    treeless = treeless_objects l
 
     indexes : List (Name × Object)
     indexes = flat_map index_objects l.tables
 
-    apart : map (told_pair rows_at) (tables_told l.tables) ++ views ≡ map (told_pair rows_at) (all_told l)
-    apart = sym (pairs_both rows_at (tables_told l.tables) (map ViewTold l.views) ∙ ap (λ ls. map (told_pair rows_at) (tables_told l.tables) ++ ls) (view_pairs rows_at l.views))
+    apart : map (told_pair rows_at) (tables_told l.tables) ++ treeless ≡ map (told_pair rows_at) (all_told l)
+    apart = sym (pairs_both rows_at (tables_told l.tables) (map ViewTold l.views ++ map TriggerTold l.triggers)
+        ∙ ap (λ ls. map (told_pair rows_at) (tables_told l.tables) ++ ls) (treeless_pairs rows_at l))
 
 -- ---- what holds of each
 
@@ -147,11 +161,20 @@ kept_views : (rows_at : ℕ → List (ℤ × List Value)) (db : Database) (views
 kept_views rows_at db [] found = tt
 kept_views rows_at db (v ∷ vs) found = (found.0, kept_views rows_at db vs found.1)
 
+kept_triggers : (rows_at : ℕ → List (ℤ × List Value)) (db : Database) (triggers : List Trigger) → AllByRecursion (IsFound rows_at db) (map TriggerTold triggers)
+    → AllByRecursion (IsKept rows_at db) (map TriggerTold triggers)
+kept_triggers rows_at db [] found = tt
+kept_triggers rows_at db (t ∷ ts) found = (found.0, kept_triggers rows_at db ts found.1)
+
 kept_all : (rows_at : ℕ → List (ℤ × List Value)) (db : Database) (l : Listed) → AllByRecursion (IsFound rows_at db) (all_told l) → AllByRecursion (IsKept rows_at db) (all_told l)
 kept_all rows_at db l found =
-    all_both (IsKept rows_at db) (tables_told l.tables) (map ViewTold l.views)
-    (kept_tables rows_at db l.tables (all_first (IsFound rows_at db) (tables_told l.tables) (map ViewTold l.views) found))
-    (kept_views rows_at db l.views (all_second (IsFound rows_at db) (tables_told l.tables) (map ViewTold l.views) found))
+    let treeless = map ViewTold l.views ++ map TriggerTold l.triggers in
+    let behind = all_second (IsFound rows_at db) (tables_told l.tables) treeless found in
+    all_both (IsKept rows_at db) (tables_told l.tables) treeless
+    (kept_tables rows_at db l.tables (all_first (IsFound rows_at db) (tables_told l.tables) treeless found))
+    (all_both (IsKept rows_at db) (map ViewTold l.views) (map TriggerTold l.triggers)
+    (kept_views rows_at db l.views (all_first (IsFound rows_at db) (map ViewTold l.views) (map TriggerTold l.triggers) behind))
+    (kept_triggers rows_at db l.triggers (all_second (IsFound rows_at db) (map ViewTold l.views) (map TriggerTold l.triggers) behind)))
 
 -- ---- what is listed, in a database
 
@@ -181,7 +204,7 @@ module _ (rows_at : ℕ → List (ℤ × List Value)) (l : Listed) (db : Databas
       (all_reordered (λ (o : Name × Object). object db o.0 ≡ Some o.1) (objects_of rows_at l) (map (told_pair rows_at) (all_told l))
       (reordered_sym (map (told_pair rows_at) (all_told l)) (objects_of rows_at l) (told_objects rows_at l)) objects_found)
 
-  -- each table, index and view that a row tells is in the database
+  -- what a row tells is in the database
   pub told_kept : AllByRecursion (IsKept rows_at db) told
   told_kept = all_reordered (IsKept rows_at db) (all_told l) told (reordered_sym told (all_told l) all) (kept_all rows_at db l all_found)
 

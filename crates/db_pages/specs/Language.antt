@@ -7,7 +7,7 @@ use Rattle.catalog.specs.Database.{Name, Database}
 use Rattle.query_names.specs.Checked.{faults}
 use Rattle.query_names.specs.Schema.{create}
 use Rattle.db_files.specs.Schema.{Language}
-use Rattle.db_pages.specs.Schema.{CreatesSupported, IsCreateOf}
+use Rattle.db_pages.specs.Schema.{IsCreateOf}
 
 abbrev name_of : NewObject → Name
 name_of (object.Table t) = t.name
@@ -26,7 +26,3 @@ Accepts db made = faults (create (others db (name_of made)) made) ≡ []
 -- all of SQL
 abbrev pub language : Language
 language = record { Creates = IsCreateOf; Accepts = Accepts }
-
--- as far as it is supported
-abbrev pub supported_language : Language
-supported_language = record { Creates = CreatesSupported; Accepts = Accepts }

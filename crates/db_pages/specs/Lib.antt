@@ -1,4 +1,3 @@
-pub mod Forms
 pub mod Language
 pub mod Reordering
 pub mod Schema

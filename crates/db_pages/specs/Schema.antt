@@ -1,4 +1,4 @@
--- The rows of the schema table: each has the text of a CREATE TABLE, CREATE INDEX or CREATE VIEW, or it is that of an automatic index, without a text
+-- The rows of the schema table: each has the text of a CREATE, or it is that of an automatic index, without a text
 -- (Database File Format, "Storage Of The SQL Database Schema").
 use Rattle.std.specs.Prelude.{◌≡◌, ◌⊎◌, ◌<◌, ◌≤◌, true, false, ℕ, pos, codes, List, [], ◌∷◌, ◌++◌, Option, Some, None, filter, flat_map, length, map}
 use Rattle.sqlval.specs.Names.{folded}
@@ -18,6 +18,7 @@ use Rattle.catalog.specs.Database.{AnIndex, Name, Object}
 use Rattle.catalog.specs.Listed.{Listed, as_index, is_reserved, key_columns, names_listed}
 use Rattle.catalog.specs.declared.tables.Index.{Index}
 use Rattle.catalog.specs.declared.tables.Table.{Table}
+use Rattle.catalog.specs.declared.tables.Trigger.{Trigger}
 use Rattle.catalog.specs.declared.tables.View.{View}
 use Rattle.query_names.specs.Checked.{good}
 use Rattle.query_names.specs.Creating.{HasChecksOf, HasColumnsOf, HasKeysOf, has_doubled}
@@ -25,7 +26,6 @@ use Rattle.query_names.specs.Schema.{automatic}
 use Rattle.query_names.specs.Scopes.{is_doubled}
 use Rattle.query_bind.specs.Indexed.{key_of, keys_known, names_in}
 use Rattle.db_files.specs.Schema.{sql_value}
-use Rattle.db_pages.specs.Forms.{is_object_supported}
 use Rattle.db_pages.specs.Reordering.{AreReordered}
 
 -- ---- texts
@@ -36,10 +36,6 @@ pub record IsCreateOf (text : List ℕ) (made : NewObject) : Type 0 where
   pub is : IsStatementText text (statement.Create (record { sql = sql; object = made }))
   pub within : is_object_within made ≡ true
   pub short : length text ≤ 65536
-
--- the text is a CREATE of this object, of a form that is supported so far
-abbrev pub CreatesSupported : List ℕ → NewObject → Type 0
-CreatesSupported text made = IsCreateOf text made × (is_object_supported made ≡ true)
 
 -- ---- what they make
 
@@ -90,21 +86,21 @@ pub record HasRowOf (pages : ℕ) (kind : List ℕ) (own_name on_table : Name) (
   pub table_name_is : folded table_name ≡ folded on_table
   pub row_is : IsRecord row.payload (schema_row kind name table_name root sql)
 
--- The row, at the rowid that the table has for it, tells the table: it has the text of a CREATE TABLE that is supported, and its name twice.
+-- The row, at the rowid that the table has for it, tells the table: it has the text of a CREATE TABLE, and its name twice.
 pub record IsTableRow (pages : ℕ) (table : Table) (row : Entry) : Type 0 where
   pub sql : List ℕ
   pub definition : TableDefinition
-  pub creates : CreatesSupported sql (new.Table definition)
+  pub creates : IsCreateOf sql (new.Table definition)
   pub makes : IsTableOf definition table
   pub rowid_is : row.rowid ≡ table.rowid
   pub row_is : HasRowOf pages (codes "table") definition.name definition.name table.root (Some sql) row
 
--- The row, at the rowid that the index has for it, tells the index of the table: it has the text of a CREATE INDEX that is supported, the
+-- The row, at the rowid that the index has for it, tells the index of the table: it has the text of a CREATE INDEX, the
 -- name of the index, and that of the table.
 pub record IsIndexRow (pages : ℕ) (table : Table) (index : Index) (row : Entry) : Type 0 where
   pub sql : List ℕ
   pub definition : IndexDefinition
-  pub creates : CreatesSupported sql (new.Index definition)
+  pub creates : IsCreateOf sql (new.Index definition)
   pub makes : IsIndexOf definition table index
   pub rowid_is : row.rowid ≡ index.rowid
   pub row_is : HasRowOf pages (codes "index") definition.name definition.table index.root (Some sql) row
@@ -115,11 +111,11 @@ pub record IsKeyRow (pages : ℕ) (table : Table) (index : Index) (row : Entry) 
   pub rowid_is : row.rowid ≡ index.rowid
   pub row_is : HasRowOf pages (codes "index") index.name table.name index.root None row
 
--- The row, at the rowid that the view has for it, tells the view: it has the text of a CREATE VIEW that is supported, whose name may be given
--- and lists no name twice, its name twice in letters of either case, and no page.
+-- The row, at the rowid that the view has for it, tells the view: it has the text of a CREATE VIEW, whose name may be given and
+-- lists no name twice, its name twice in letters of either case, and no page.
 pub record IsViewRow (view : View) (row : Entry) : Type 0 where
   pub sql : List ℕ
-  pub creates : CreatesSupported sql (new.View view.definition)
+  pub creates : IsCreateOf sql (new.View view.definition)
   pub free : is_reserved view.definition.name ≡ false
   pub once : is_doubled (names_listed view.definition) ≡ false
   pub rowid_is : row.rowid ≡ view.rowid
@@ -129,11 +125,25 @@ pub record IsViewRow (view : View) (row : Entry) : Type 0 where
   pub table_name_is : folded table_name ≡ folded view.definition.name
   pub row_is : IsRecord row.payload (schema_row (codes "view") name table_name 0 (Some sql))
 
--- what a row tells: a table, an index of one, or a view
+-- The row, at the rowid that the trigger has for it, tells the trigger: it has the text of a CREATE TRIGGER, whose name may be given, that name
+-- and the name of its table or view, each in letters of either case, and no page.
+pub record IsTriggerRow (trigger : Trigger) (row : Entry) : Type 0 where
+  pub sql : List ℕ
+  pub creates : IsCreateOf sql (new.Trigger trigger.definition)
+  pub free : is_reserved trigger.definition.name ≡ false
+  pub rowid_is : row.rowid ≡ trigger.rowid
+  pub name : Name
+  pub name_is : folded name ≡ folded trigger.definition.name
+  pub target_name : Name
+  pub target_name_is : folded target_name ≡ folded trigger.definition.target
+  pub row_is : IsRecord row.payload (schema_row (codes "trigger") name target_name 0 (Some sql))
+
+-- what a row tells: a table, an index of one, a view, or a trigger
 pub data Told : Type 0 where
   TableTold : Table → Told
   IndexTold : Table → Index → Told
   ViewTold : View → Told
+  TriggerTold : Trigger → Told
 
 abbrev pub told_by : Table → List Told
 told_by table = TableTold table ∷ map (λ index. IndexTold table index) table.indexes
@@ -144,15 +154,16 @@ tables_told tables = flat_map told_by tables
 
 -- all that is listed
 abbrev pub all_told : Listed → List Told
-all_told l = tables_told l.tables ++ map ViewTold l.views
+all_told l = tables_told l.tables ++ (map ViewTold l.views ++ map TriggerTold l.triggers)
 
 -- the row tells it, in a database of so many pages
 abbrev pub Tells : ℕ → Told → Entry → Type 0
 Tells pages (TableTold table) row = IsTableRow pages table row
 Tells pages (IndexTold table index) row = IsIndexRow pages table index row ⊎ IsKeyRow pages table index row
 Tells pages (ViewTold view) row = IsViewRow view row
+Tells pages (TriggerTold trigger) row = IsTriggerRow trigger row
 
--- Each row tells one of the tables, indexes and views, and each of these is told by one row, in whatever order.
+-- Each row tells one of the tables, indexes, views and triggers, and each of these is told by one row, in whatever order.
 pub record AreRowsOf (pages : ℕ) (l : Listed) (rows : List Entry) : Type 0 where
   pub told : List Told
   pub all : AreReordered told (all_told l)

@@ -5,16 +5,16 @@ use Rattle.pages.specs.Map.{PageMap}
 use Rattle.db_files.specs.Stands.{StandsFor}
 use Rattle.catalog.specs.Database.{Database}
 use Rattle.catalog.specs.Listed.{Listed}
-use Rattle.db_pages.specs.Language.{supported_language}
+use Rattle.db_pages.specs.Language.{language}
 use Rattle.db_pages.specs.Stored.{IsCounted, Stores}
 
 -- pages that store a database stand for it, where their header counts them
 abbrev pub StoredStand : Type 0
-StoredStand = (map : PageMap) (size : ℕ) (l : Listed) (db : Database) → Stores map size l db → IsCounted map → StandsFor supported_language size map db
+StoredStand = (map : PageMap) (size : ℕ) (l : Listed) (db : Database) → Stores map size l db → IsCounted map → StandsFor language size map db
 
 -- and pages that stand for a database store it
 abbrev pub StandingStored : Type 0
-StandingStored = (map : PageMap) (size : ℕ) (db : Database) → StandsFor supported_language size map db → (l : Listed) × Stores map size l db
+StandingStored = (map : PageMap) (size : ℕ) (db : Database) → StandsFor language size map db → (l : Listed) × Stores map size l db
 
 -- pages store one database at most
 abbrev pub StoredOnce : Type 0

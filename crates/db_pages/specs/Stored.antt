@@ -1,4 +1,4 @@
--- Which database the pages of a file hold whose tables, indexes and views are listed (Database File Format, "The Database File").
+-- Which database the pages of a file hold whose tables, indexes, views and triggers are listed (Database File Format, "The Database File").
 use Rattle.std.specs.Prelude.{◌≡◌, ⊤, ℕ, true, List, ◌∷◌, flat_map, length, MatchOption}
 use Rattle.std.specs.List.{AllByRecursion}
 use Rattle.db_header.specs.Header.{IsHeader, counted_of}
@@ -14,6 +14,7 @@ use Rattle.catalog.specs.Named.{IsOfListed}
 use Rattle.catalog.specs.Rows.{are_rows}
 use Rattle.catalog.specs.declared.tables.Table.{Table}
 use Rattle.query_names.specs.Bound.{AreOnce}
+use Rattle.query_bind.specs.Triggers.{FitsTarget}
 use Rattle.row_scan.specs.Rows.{TableRow}
 use Rattle.db_pages.specs.Schema.{AreRowsOf, HasKeyIndexes}
 
@@ -30,13 +31,14 @@ pub record AreHeld (rows_at : ℕ → List TableRow) (table : Table) (trees : Li
 abbrev pub all_trees : List (List Owner) → List Owner
 all_trees held = flat_map (λ trees. trees) held
 
--- The pages, each of this size, hold the database of what is listed: a header, the schema table, whose rows tell the tables, indexes and views,
--- a tree for each table and index, and the freelist. Each page is used once.
+-- The pages, each of this size, hold the database of what is listed: a header, the schema table, whose rows tell what is listed, a tree for each
+-- table and index, and the freelist. Each trigger fits what its ON names, and each page is used once.
 pub record Stores (map : PageMap) (size : ℕ) (l : Listed) (db : Database) : Type 0 where
   pub rows_at : ℕ → List TableRow
   pub of_listed : IsOfListed rows_at l db
   pub once : AreOnce l.tables
   pub keys : AllByRecursion HasKeyIndexes l.tables
+  pub targets : AllByRecursion (λ t. FitsTarget l t.definition) l.triggers
   pub header : Header
   pub header_is : IsHeader (page_at map 1) header
   pub sized : header.page_size ≡ size

@@ -1,4 +1,4 @@
-//! Which database pages hold whose tables, indexes and views are listed.
+//! Which database pages hold whose tables, indexes, views and triggers are listed.
 #![tactic(auto)]
 
 mod laws;

@@ -152,16 +152,17 @@ nothing_shared page_size page served e =
       once = λ n. subst (λ (k : ℕ). ◌≡◌ {A = ℕ} ((if 1 == n then 1 else 0) + 0 + 0) (fresh 0 k n)) (sym (one_page page_size page)) (used_once n);
     }
 
--- neither a table nor a view
+-- neither a table nor a view nor a trigger
 abbrev nothing_listed : Listed
-nothing_listed = record { tables = []; views = [] }
+nothing_listed = record { tables = []; views = []; triggers = [] }
 
 nothing_shown : (page_size : ℕ) (page : List ℕ) → IsPageSize page_size → IsEmptyDatabase page_size page → ShowsDatabase (page_view page_size page) nothing_listed []
 nothing_shown page_size page served e = record {
   stored = record {
     rows_at = λ root. [];
-    of_listed = record { lists = λ name. refl; quiet = refl; named = record { rising = refl; each_folded = tt }; once = refl };
+    of_listed = record { lists = λ name. refl; named = record { rising = refl; each_folded = tt }; once = refl };
     keys = tt;
+    targets = tt;
     once = λ name t listed. none_listed t listed;
     header = empty_of page_size;
     header_is = subst (λ (b : List ℕ). IsHeader b (empty_of page_size)) (sym (only_page page_size page served e)) (page_header_is page_size page e);

@@ -1,4 +1,4 @@
--- Why statements are refused: what isn't supported is, and a database is full where it may be.
+-- Why statements are refused: a database is full where it may be.
 use Rattle.std.proofs.Common.{◌≡◌, ◌⊎◌, inl, inr, refl, sym, subst, ◌∙◌, ℕ, Bool}
 use Rattle.std.specs.Prelude.{IsFalse, IsTrue, Result, Ok, Err, IfOk, IfErr, OnOk, IsErrAnd}
 use Rattle.std.proofs.lemmas.Bool.{false≢true}
@@ -6,17 +6,8 @@ use Rattle.sqlval.specs.declared.fault.Fault.{Fault}
 use Rattle.sqlval.specs.declared.fault.Fault.TheVariants.{Memory, Io, NotADatabase, Unsupported, Damaged, Full, Syntax, NoSuch, Exists, Ambiguous, Misuse, Busy, StaleSnapshot, NoTransaction, InTransaction, NoSavepoint, NotNull, Unique, Check, Raised, RealRefused, TypeRefused, RowidFull, RowidMismatch, TooLong, RowChangedBefore, ViewReadOnly, Failed, Blank}
 use Rattle.sqlval.specs.declared.fault.Damage.TheVariants as damages
 use Rattle.sqlval.specs.declared.fault.Feature.TheVariants as features
-use Rattle.session.specs.ConnectionState.{AnswersUnsupported}
 use Rattle.wal.specs.Refusals.{IsCutRefusal, IsOpenRefusal}
 use Rattle.pages.specs.Calls.{Causes, IsCause}
-
-an_answer : {T : Type 0} (x : T) (f : Fault) → Ok x ≡ Err f → ⊥
-an_answer x f h = cc
-
--- what isn't supported isn't answered
-pub never_answered : {T : Type 0} (result : Result T Fault) → AnswersUnsupported result → IfOk result (λ x. ⊥)
-never_answered (Ok x) e = an_answer x _ e
-never_answered (Err f) u = tt
 
 pub full_of : {T : Type 0} (flag : Bool) (result : Result T Fault) (old new : ℕ × ℕ) → Causes result old new (IsTrue flag) → result ≡ Err Full → IsTrue flag
 full_of flag result old new causes is = (let why : IsCause old new (IsTrue flag) Full = subst (λ r. IfErr r (IsCause old new (IsTrue flag))) is causes.why in why.full refl)

@@ -30,9 +30,8 @@ record IsSound (m : Machine) : Type 0 where
   sure : m.failed ≡ false → m.in_doubt ≡ None
 
 so_far_beside : (m : Machine) (c : ℕ) (s : Statement) (reply : Reply) (new : Machine) → StepSoFar m c s reply new → IsBeside m c new
-so_far_beside m c s reply new (inl (is, inl step)) = others_stay_beside m c s reply new step
-so_far_beside m c s reply new (inl (is, inr h)) = moved m new m c h.2 (beside_itself m c)
-so_far_beside m c s reply new (inr h) = moved m new m c h.1 (beside_itself m c)
+so_far_beside m c s reply new (inl step) = others_stay_beside m c s reply new step
+so_far_beside m c s reply new (inr h) = moved m new m c h.2 (beside_itself m c)
 
 -- what is at a place
 at_place : (dbs : List Database) (i : ℕ) → i < length dbs → slice_get dbs i ≡ Some (unwrap_or (slice_get dbs i) [])

@@ -9,7 +9,7 @@ use Rattle.sqlval.specs.Faults.{IsOutside}
 use Rattle.sqlval.specs.declared.fault.Fault.{Fault}
 use Rattle.sqlval.specs.declared.fault.Fault.TheVariants.{Io, Blank}
 use Rattle.catalog.specs.Database.{Database}
-use Rattle.catalog.specs.Listed.{listed_in, Listed}
+use Rattle.catalog.specs.Listed.{listed_in}
 use Rattle.wal_frame.specs.Accepted.{KeepsFile}
 use Rattle.wal_frame.specs.Written.{Framed}
 use Rattle.wal_frame.specs.declared.log_header.Salts.{Salts}

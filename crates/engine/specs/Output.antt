@@ -36,7 +36,7 @@ row_line row = row_text row ++ 10 ∷ []
 -- what is said of a refusal besides: where a syntax error begins, and the text that was raised
 abbrev pub detail_of : Fault → List ℕ
 detail_of (Syntax at) = 32 ∷ decimal at
-detail_of (Raised text) = 32 ∷ quoted text
+detail_of (Raised raised) = 32 ∷ quoted raised.text
 detail_of fault = []
 
 -- a refusal as a line

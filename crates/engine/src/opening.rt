@@ -19,10 +19,7 @@ ghost use Rattle.engine.specs.Creating.{CountsIo, is_blank_content};
 ghost use Rattle.engine.specs.Opening.{HasPageSize, IsCutTo, KeepsFiles, KeepsFilesBut, LeavesOpened, ReadsHeader, StartsWith, TellsBlank};
 ghost use Rattle.sqlval.specs.declared.fault.Fault.TheVariants.{Io};
 ghost use Rattle.disk.specs.Calls.{Rose};
-ghost use Rattle.sql_syntax.specs.declared.statement.Statement.{Statement};
-ghost use Rattle.sql_grammar.specs.Texts.{IsStatementText};
 ghost use Rattle.session.specs.Seats.{AreFresh, catalog_in};
-ghost use Rattle.executor.specs.Forms as forms;
 
 use crate::creating::is_blank;
 use catalog::Catalog;
@@ -147,7 +144,7 @@ fn load_and_truncate<D: Disk + Drop>(alloc: Global, log: &mut Log<D>) -> R<Seats
 }
 
 impl<D: Disk + Drop> Engine<D> {
-    ghost use Rattle.session.specs.ConnectionState.{IsNoConnection, first_refusal};
+    ghost use Rattle.session.specs.ConnectionState.{IsNoConnection};
     ghost use Rattle.engine.specs.EngineState.{db_disk, has_failed_of, log_disk};
     ghost use Rattle.engine.specs.Failing.{CountsFailures, HasFullCause};
     ghost use Rattle.session.specs.Holding.{Hold, LeaveHeld};
@@ -214,19 +211,14 @@ impl<D: Disk + Drop> Engine<D> {
         connections.into_disks()
     }
 
-    /// Executes a statement on a connection, 1 to 16. A refused one changes nothing, except that `Io` of a commit or a
-    /// checkpoint may mark the engine as failed: then every statement answers `Failed`.
+    /// Executes a statement on a connection, 1 to 16. A refused one changes nothing, except that RAISE(ROLLBACK) ends the connection's
+    /// transaction, and that `Io` of a commit or a checkpoint may mark the engine as failed: then every statement answers `Failed`.
     pub fn execute(&mut self, connection: u32, text: &str) -> R<Rows>
         // Once a commit or a checkpoint has failed so, every statement is refused, and nothing changes any more.
         ensures failed { IsTrue (has_failed_of self.old) → (result ≡ Err Fault.Failed)
             × (self.new ≡ self.old) }
         ensures numbered { IsFalse (has_failed_of self.old) → IsNoConnection connection
             → (result ≡ Err (Fault.Misuse Misuse.Connection)) × (self.new ≡ self.old) }
-        // A statement of a form that isn't supported yet is refused and changes nothing.
-        ensures unsupported { (statement : Statement)
-            → first_refusal (has_failed_of self.old) connection ≡ Ok tt
-            → IsStatementText text.now statement → IsFalse (forms.is_supported statement)
-            → IfOk result (λ _. ⊥) × (self.new ≡ self.old) }
         // What the counts of the two disks' failed calls say of the answer, and of the mark of a failed engine.
         ensures counted { CountsFailures result self.old self.new }
         // What only reads, begins or rolls back is never refused as `Full`, and a COMMIT, or a RELEASE that commits, only past the limits.

@@ -17,9 +17,9 @@ fn put_detail(out: &mut Vec<u8>, fault: &Fault) -> Result<(), AllocError>
             out.push(b' ')?;
             out.extend_from_slice(Buffer::new().format(*offset).as_bytes())
         }
-        Fault::Raised(text) => {
+        Fault::Raised(raised) => {
             out.push(b' ')?;
-            put_text(out, text.as_str().as_bytes())
+            put_text(out, raised.text.as_str().as_bytes())
         }
         _ => Ok(()),
     }

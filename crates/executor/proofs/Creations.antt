@@ -25,8 +25,7 @@ use Rattle.tree_table.specs.Rows.{payload_at, with_row}
 use Rattle.tree_table.proofs.LeafTrees.{root_there}
 use Rattle.db_layout.specs.Layout.{ReplacesTrees, TreesStand}
 use Rattle.catalog.specs.Database.{AnIndex, ATable, Database, Name, Object, with_object}
-use Rattle.catalog.specs.Laws.{KeepsNoTrigger}
-use Rattle.catalog.specs.Listed.{Lists, as_index, has_index, has_table_name, is_name_of, is_reserved, is_table, key_columns, named_among, names_of, objects_of, with_replaced, with_rows, table_named, Listed, is_view}
+use Rattle.catalog.specs.Listed.{Lists, as_index, has_index, has_table_name, is_name_of, is_reserved, is_table, key_columns, named_among, names_of, objects_of, with_replaced, with_rows, table_named, treeless_names, Listed, is_trigger, is_view}
 use Rattle.catalog.specs.Named.{IsOfListed, KeepsNamed}
 use Rattle.catalog.specs.NewTables.{ListsNewTable}
 use Rattle.catalog.specs.UnusedRowids.{is_among}
@@ -42,7 +41,7 @@ use Rattle.query_names.specs.Schema.{automatic, automatic_name, create, with_obj
 use Rattle.query_names.proofs.CreatedTables.{makes_table, named_columns, refuses_table}
 use Rattle.row_scan.specs.Rows.{TableRow}
 use Rattle.db_pages.specs.Reordering.{AreReordered}
-use Rattle.db_pages.specs.Schema.{AreRowsOf, HasKeyIndexes, IndexTold, IsCreateOf, IsTableRow, TableTold, all_told, automatic_objects, due_objects, schema_row, ViewTold, tables_told}
+use Rattle.db_pages.specs.Schema.{AreRowsOf, HasKeyIndexes, IndexTold, IsCreateOf, IsTableRow, TableTold, all_told, automatic_objects, due_objects, schema_row, tables_told}
 use Rattle.db_pages.proofs.Reordering.{reordered_is, reordered_refl}
 use Rattle.db_pages.specs.Stored.{Stores}
 use Rattle.executor.specs.Changing.{IsChangeRefusal, IsMade}
@@ -56,13 +55,12 @@ use Rattle.executor.proofs.KeyIndexes.{all_replaced, wide_keys}
 use Rattle.executor.proofs.NewNames.{automatic_names_are_new, not_reserved}
 use Rattle.executor.proofs.Replacing.{turned}
 use Rattle.executor.proofs.Roots.{found_root, roots_of}
-use Rattle.executor.proofs.Telling.{as_rows, as_told, free_at, more_pages, one_more}
-use Rattle.catalog.specs.declared.tables.View.{View}
+use Rattle.executor.proofs.Targets.{AreFit, fit_with_other, fit_with_table, no_view}
+use Rattle.executor.proofs.Telling.{as_rows, as_told, free_at, more_pages, one_more, treeless_told}
 
 -- what follows for every listed database, and for the trees of its file
 pub record Laws : Type 0 where
   pub lists : ListsNewTable
-  pub quiet : KeepsNoTrigger
   pub named : KeepsNamed
   pub stand : TreesStand
   pub give_way : ReplacesTrees
@@ -124,7 +122,14 @@ none_has (t ∷ ts) name new =
     ap (λ b. cond b (Some t) (table_named name ts)) own.0 ∙ none_has ts name both.1
 
 pub no_table : (l : Listed) (name : Name) → is_name_of l name ≡ false → table_named name l.tables ≡ None
-no_table l name new = none_has l.tables name (neither (list_any (has_table_name name) l.tables) (list_any (is_view name) l.views) new).0
+no_table l name new = none_has l.tables name (neither (list_any (has_table_name name) l.tables) (list_any (is_view name) l.views || list_any (is_trigger name) l.triggers) new).0
+
+-- nor is one replaced
+replaces_none : (new : Table) (tables : List Table) → list_any (has_table_name new.name) tables ≡ false → with_replaced new tables ≡ tables
+replaces_none new [] none = refl
+replaces_none new (t ∷ ts) none =
+    let both = neither (has_table_name new.name t) (list_any (has_table_name new.name) ts) none in
+    ap (λ b. cond b new t ∷ with_replaced new ts) (neither (is_table new.name t) (has_index new.name t) both.0).0 ∙ ap (λ us. t ∷ us) (replaces_none new ts both.1)
 
 -- with a table more, before the others
 abbrev pub more : Listed → Table → Listed
@@ -133,7 +138,7 @@ more l t = record l { tables = t ∷ l.tables }
 bare_names : (t : Table) (l : Listed) → t.indexes ≡ [] → names_of (more l t) ≡ t.name ∷ names_of l
 bare_names t l bare = ap
     (λ (is : List Index). map (λ (u : Table). u.name) (t ∷ l.tables)
-    ++ (map (λ (v : View). v.definition.name) l.views ++ (map (λ (i : Index). i.name) is ++ flat_map (λ (u : Table). map (λ (i : Index). i.name) u.indexes) l.tables))) bare
+    ++ (treeless_names l ++ (map (λ (i : Index). i.name) is ++ flat_map (λ (u : Table). map (λ (i : Index). i.name) u.indexes) l.tables))) bare
 
 -- ---- a table more
 
@@ -165,14 +170,14 @@ module _ (laws : Laws) (old : PageMap) (size : ℕ) (l : Listed) (db : Database)
     -- its row isn't added
     pub refused_row : (f : Fault) → IsOutsideOrFull f ⊎ AreTooLong (schema_row (codes "table") d.name d.name root (Some sql)) f → IsChangeRefusal (creating sql d) db f
     refused_row f (inl full) = inl full
-    refused_row f (inr (what, long)) = inr (inr (record {
+    refused_row f (inr (what, long)) = inr (inr (inl (record {
       is = what;
       why = inr (record {
         made = made_of db d t;
         reaches = reached sql db held.rows_at l d t held.of_listed new_table;
         long = (root, inl long);
       });
-    }))
+    })))
 
     module _ (text : IsCreateOf sql (object.Table d)) (new : PageMap) (unused : is_among t.rowid (rowids_of l) ≡ false)
         (added : IsAdded mid new size (schema_row (codes "table") d.name d.name root (Some sql)) held.schema held.schema_used tree.now_free t.rowid) where
@@ -183,7 +188,7 @@ module _ (laws : Laws) (old : PageMap) (size : ℕ) (l : Listed) (db : Database)
       new_row = record {
         sql = sql;
         definition = d;
-        creates = (text, refl);
+        creates = text;
         makes = new_table.makes;
         rowid_is = added.rowid_is;
         row_is = record {
@@ -198,7 +203,7 @@ module _ (laws : Laws) (old : PageMap) (size : ℕ) (l : Listed) (db : Database)
       }
 
       all_are : all_told (more l t) ≡ TableTold t ∷ all_told l
-      all_are = ap (λ (is : List Index). ((TableTold t ∷ map (λ i. IndexTold t i) is) ++ tables_told l.tables) ++ map ViewTold l.views) new_table.bare
+      all_are = ap (λ (is : List Index). ((TableTold t ∷ map (λ i. IndexTold t i) is) ++ tables_told l.tables) ++ treeless_told l) new_table.bare
 
       told : AreRowsOf (length new) (more l t) (with_row added.entry held.schema)
       told = as_rows (length new) (more l t) (TableTold t ∷ all_told l) (with_row added.entry held.schema) all_are
@@ -221,12 +226,11 @@ module _ (laws : Laws) (old : PageMap) (size : ℕ) (l : Listed) (db : Database)
 
       lists_more : Lists (rows_with held.rows_at root []) (more l t) (with_object db t.name (ATable (with_rows t [])))
       lists_more = subst (λ (n : ℕ). Lists (rows_with held.rows_at n []) (more l t) (with_object db t.name (ATable (with_rows t [])))) root_is
-          (laws.lists held.rows_at [] l.tables l.views db t held.of_listed.lists new_table.bare (no_table l t.name new_name) unused_root)
+          (laws.lists held.rows_at [] l.tables l db t held.of_listed.lists new_table.bare (no_table l t.name new_name) unused_root)
 
       of_more : IsOfListed (rows_with held.rows_at root []) (more l t) (with_object db t.name (ATable (with_rows t [])))
       of_more = record {
         lists = lists_more;
-        quiet = laws.quiet db t.name (ATable (with_rows t [])) held.of_listed.quiet refl;
         named = laws.named db t.name (ATable (with_rows t [])) held.of_listed.named;
         once = ap not (ap (any_twice is_same_name) (bare_names t l new_table.bare)
             ∙ (ap (λ b. b || any_twice is_same_name (names_of l)) (none_named held.rows_at l t.name new_name) ∙ no_no (any_twice is_same_name (names_of l)) held.of_listed.once));
@@ -248,9 +252,9 @@ module _ (laws : Laws) (old : PageMap) (size : ℕ) (l : Listed) (db : Database)
       -- nor has it rows, and the names of those indexes are new
       new_names : AreNewNames (more l t) t.name
       new_names number =
-          ap (λ (b : Bool). ((b || has_index (folded (automatic_name t.name number)) t) || list_any (has_table_name (folded (automatic_name t.name number))) l.tables) || list_any (is_view (folded (automatic_name t.name number))) l.views)
+          ap (λ (b : Bool). ((b || has_index (folded (automatic_name t.name number)) t) || list_any (has_table_name (folded (automatic_name t.name number))) l.tables) || (list_any (is_view (folded (automatic_name t.name number))) l.views || list_any (is_trigger (folded (automatic_name t.name number))) l.triggers))
           (not_reserved t.name t.name number (subst (λ (n : Name). is_reserved n ≡ false) (sym name_is) new_table.makes.free))
-          ∙ (ap (λ (is : List Index). (list_any (λ (i : Index). is_same_name i.name (folded (automatic_name t.name number))) is || list_any (has_table_name (folded (automatic_name t.name number))) l.tables) || list_any (is_view (folded (automatic_name t.name number))) l.views) new_table.bare
+          ∙ (ap (λ (is : List Index). (list_any (λ (i : Index). is_same_name i.name (folded (automatic_name t.name number))) is || list_any (has_table_name (folded (automatic_name t.name number))) l.tables) || (list_any (is_view (folded (automatic_name t.name number))) l.views || list_any (is_trigger (folded (automatic_name t.name number))) l.triggers)) new_table.bare
           ∙ automatic_names_are_new (length old) l held.schema held.tell held.keys t.name new_name number)
 
       -- what listing the indexes of its keys comes to
@@ -284,21 +288,21 @@ module _ (old : PageMap) (size : ℕ) (l : Listed) (db : Database) (held : Store
 
   pub refused_keys : (f : Fault) → IsKeyRefusal t f → IsChangeRefusal (creating sql d) db f
   refused_keys f (inl full) = inl full
-  refused_keys f (inr (inl (what, wide))) = inr (inr (record { is = what; why = inl (sym (wide_keys d t new_table.makes.keys) ∙ wide) }))
-  refused_keys f (inr (inr (number, root, (what, long)))) = inr (inr (record {
+  refused_keys f (inr (inl (what, wide))) = inr (inr (inl (record { is = what; why = inl (sym (wide_keys d t new_table.makes.keys) ∙ wide) })))
+  refused_keys f (inr (inr (number, root, (what, long)))) = inr (inr (inl (record {
     is = what;
     why = inr (record {
       made = made_of db d t;
       reaches = reached sql db held.rows_at l d t held.of_listed new_table;
       long = (root, inr (number, subst (λ (n : Name). AreStorable (schema_row (codes "index") (automatic_name n number) n root None) → ⊥) new_table.makes.name_is long));
     });
-  }))
+  })))
 
   pub creates : (after : Listed) → IsKeyed last size (more l t) (bare_made db d t) t (length t.keys) after → IsMade (creating sql d) db last size after
   creates after k = record {
     made = made_of db d t;
     reaches = reached sql db held.rows_at l d t held.of_listed new_table;
-    stored = subst (λ (os : List (Name × Object)). Stores last size after (with_objects (bare_made db d t) os)) (take_due t) (stored_of last size after (with_objects (bare_made db d t) (take (length t.keys) (due_objects t))) k.holds keys);
+    stored = subst (λ (os : List (Name × Object)). Stores last size after (with_objects (bare_made db d t) os)) (take_due t) (stored_of last size after (with_objects (bare_made db d t) (take (length t.keys) (due_objects t))) k.holds keys targets);
   }
     where
       same_name : is_same_name t.name k.keyed.name ≡ true
@@ -307,6 +311,24 @@ module _ (old : PageMap) (size : ℕ) (l : Listed) (db : Database) (held : Store
       keys : AllByRecursion HasKeyIndexes after.tables
       keys = subst (AllByRecursion HasKeyIndexes) (sym (ap (λ (x : Listed). x.tables) k.listed ∙ ap (λ (b : Bool). cond b k.keyed t ∷ with_replaced k.keyed l.tables) same_name))
           (keys_are after k, all_replaced HasKeyIndexes k.keyed l.tables (keys_are after k) held.keys)
+
+      new_name : is_name_of l t.name ≡ false
+      new_name = subst (λ (n : Name). is_name_of l n ≡ false) (sym new_table.makes.name_is) new_table.new
+
+      -- no other has the table's name
+      none_replaced : with_replaced k.keyed l.tables ≡ l.tables
+      none_replaced = replaces_none k.keyed l.tables
+          (subst (λ (n : Name). list_any (has_table_name n) l.tables ≡ false) (sym (ap (λ (u : Table). u.name) k.alike))
+          (neither (list_any (has_table_name t.name) l.tables) (list_any (is_view t.name) l.views || list_any (is_trigger t.name) l.triggers) new_name).0)
+
+      after_is : after ≡ record l { tables = k.keyed ∷ l.tables }
+      after_is =
+          k.listed ∙ ap (λ (ts : List Table). record l { tables = ts }) (ap (λ (b : Bool). cond b k.keyed t ∷ with_replaced k.keyed l.tables) same_name ∙ ap (λ (ts : List Table). k.keyed ∷ ts) none_replaced)
+
+      targets : AreFit after after.triggers
+      targets = subst (λ (x : Listed). AreFit x x.triggers) (sym after_is)
+          (fit_with_other (more l t) [] t k.keyed l.tables refl (ap (λ (u : Table). u.name) k.alike) (ap (λ (u : Table). with_rows u []) k.alike)
+          (fit_with_table l t (no_table l t.name new_name) (no_view l t.name new_name) held.targets))
 
 -- ---- calls that pass a refusal on
 

@@ -14,7 +14,7 @@ use Rattle.db_layout.specs.Layout.{Owner}
 use Rattle.sqlval.specs.PageSizes.{IsPageSize}
 use Rattle.db_layout.specs.Trees.{AreAmong}
 use Rattle.catalog.specs.Database.{ATable, Database, Name, with_object}
-use Rattle.catalog.specs.Laws.{KeepsNoTrigger, ListsOtherRows}
+use Rattle.catalog.specs.Laws.{ListsOtherRows}
 use Rattle.catalog.specs.Listed.{with_rows, table_named, Listed}
 use Rattle.catalog.specs.Named.{IsOfListed, KeepsNamed}
 use Rattle.catalog.specs.declared.tables.Table.{Table}
@@ -31,7 +31,7 @@ use Rattle.row_change.specs.Constraints.{table_of}
 use Rattle.db_write.specs.Changing.{DeletesInTrees, HoldsFitRows, IsRefusedDelete}
 use Rattle.trigger.specs.Binding.{IsFault}
 use Rattle.trigger.specs.Effects.{change}
-use Rattle.trigger.specs.Laws.{BindsAlone, DeleteTakesChosen, DeleteTakesRows}
+use Rattle.trigger.specs.Laws.{BindsAlone, DeleteTakesChosen, DeleteTakesRows, SetsOffNothing}
 use Rattle.executor.specs.Changing.{IsChangeRefusal, IsMade}
 use Rattle.db_pages.specs.Stored.{Stores, all_trees, schema_tree}
 use Rattle.executor.specs.Works.{Reaches, RefusesWith, change_made, of_answer}
@@ -46,7 +46,6 @@ use Rattle.executor.specs.Refusing.{is_view_named}
 -- what follows for every listed database, and for the trees of its file
 pub record Laws : Type 0 where
   pub lists : ListsOtherRows
-  pub quiet : KeepsNoTrigger
   pub named : KeepsNamed
   pub binds : BindsAlone
   pub deletes : DeleteTakesRows
@@ -69,42 +68,14 @@ known_fault name (Meant w rs) r has = has
 
 -- a refusal is one by its statement
 pub as_refused : (f : Fault) → RefusesWith (of_answer (Err (refusal_of f))) (refusal_of f)
-as_refused fault.Memory = (0, omega arith, refl)
-as_refused fault.Io = (0, omega arith, refl)
-as_refused fault.NotADatabase = (0, omega arith, refl)
-as_refused (fault.Unsupported x) = (0, omega arith, refl)
-as_refused (fault.Damaged x y) = (0, omega arith, refl)
-as_refused fault.Full = (0, omega arith, refl)
-as_refused (fault.Syntax x) = (0, omega arith, refl)
-as_refused (fault.NoSuch x y) = (0, omega arith, refl)
-as_refused (fault.Exists x) = (0, omega arith, refl)
-as_refused (fault.Ambiguous x) = (0, omega arith, refl)
-as_refused (fault.Misuse x) = (0, omega arith, refl)
-as_refused fault.Busy = (0, omega arith, refl)
-as_refused fault.StaleSnapshot = (0, omega arith, refl)
-as_refused fault.NoTransaction = (0, omega arith, refl)
-as_refused fault.InTransaction = (0, omega arith, refl)
-as_refused fault.NoSavepoint = (0, omega arith, refl)
-as_refused fault.NotNull = (0, omega arith, refl)
-as_refused fault.Unique = (0, omega arith, refl)
-as_refused fault.Check = (0, omega arith, refl)
-as_refused (fault.Raised x) = (0, omega arith, refl)
-as_refused fault.RealRefused = (0, omega arith, refl)
-as_refused fault.TypeRefused = (0, omega arith, refl)
-as_refused fault.RowidFull = (0, omega arith, refl)
-as_refused fault.RowidMismatch = (0, omega arith, refl)
-as_refused fault.TooLong = (0, omega arith, refl)
-as_refused fault.RowChangedBefore = (0, omega arith, refl)
-as_refused fault.ViewReadOnly = (0, omega arith, refl)
-as_refused fault.Failed = (0, omega arith, refl)
-as_refused fault.Blank = (0, omega arith, refl)
+as_refused f = (0, omega arith, refl)
 
-module _ (laws : Laws) (pages : PageMap) (size : ℕ) (l : Listed) (db : Database) (held : Stores pages size l db) (d : Delete) (plain : is_view_named l d.table ≡ false) where
+module _ (laws : Laws) (pages : PageMap) (size : ℕ) (l : Listed) (db : Database) (held : Stores pages size l db) (d : Delete) (still : SetsOffNothing db (kind.Delete d)) (plain : is_view_named l d.table ≡ false) where
   resolved : (found : Option Table) → table_named d.table l.tables ≡ found → resolve_change db no_outer (kind.Delete d) ≡ resolved_by d (looked_up found)
   resolved found named = ap (resolved_by d) (known_as held.rows_at l db held.of_listed.lists d.table plain ∙ ap looked_up named)
 
   refused_so : (f : Fault) → Contains (faults (resolve_change db no_outer (kind.Delete d))) (refusal_of f) → IsChangeRefusal (deleting d) db f
-  refused_so f has = inr (inl (inl ((laws.binds db (kind.Delete d) (refusal_of f) held.of_listed.quiet).1 has)))
+  refused_so f has = inr (inl (inl ((laws.binds db (kind.Delete d) (refusal_of f) still).1 has)))
 
   -- a name that no table has
   pub name_refused : (f : Fault) → (f ≡ fault.Memory) ⊎ (refusal_of f ≡ NoSuch) × (table_named d.table l.tables ≡ None) → IsChangeRefusal (deleting d) db f
@@ -131,7 +102,7 @@ module _ (laws : Laws) (pages : PageMap) (size : ℕ) (l : Listed) (db : Databas
       owned = held_table pages size l db held d.table t named
 
       not_refused : (r : Refusal) → IsFault db (kind.Delete d) r → ⊥
-      not_refused r is = nothing (subst (λ (k : Checked Resolved). Contains (faults k) r) bound ((laws.binds db (kind.Delete d) r held.of_listed.quiet).0 is))
+      not_refused r is = nothing (subst (λ (k : Checked Resolved). Contains (faults k) r) bound ((laws.binds db (kind.Delete d) r still).0 is))
         where
           nothing : Contains [] r → ⊥
           nothing has = absurd (omega (arith, has.1))
@@ -150,7 +121,6 @@ module _ (laws : Laws) (pages : PageMap) (size : ℕ) (l : Listed) (db : Databas
       of_listed left = record {
         lists = laws.lists held.rows_at l db (folded d.table) t left held.of_listed.lists (named_folded l.tables d.table t named)
             (λ other u found here. own_pages pages size l db held other (folded d.table) u t found (named_folded l.tables d.table t named) here);
-        quiet = laws.quiet db (folded d.table) (ATable (with_rows t left)) held.of_listed.quiet refl;
         named = laws.named db (folded d.table) (ATable (with_rows t left)) held.of_listed.named;
         once = held.of_listed.once;
       }
@@ -183,7 +153,7 @@ module _ (laws : Laws) (pages : PageMap) (size : ℕ) (l : Listed) (db : Databas
         let cleared = clears schema (all_trees o.split.before) (all_trees o.split.after) (held.rows_at t.root) size_is refl (its_trees None known) o.split.is.fit in
         record {
           made = with_left None known [];
-          reaches = reaches None known (with_left None known []) (laws.deletes db d t (held.rows_at t.root) held.of_listed.quiet held.of_listed.named (listed None known) o.split.is.fit (bound None known));
+          reaches = reaches None known (with_left None known []) (laws.deletes db d t (held.rows_at t.root) still held.of_listed.named (listed None known) o.split.is.fit (bound None known));
           stored = stored None known new [] cleared;
         }
     clear_makes known new (Err f) clears =
@@ -195,7 +165,7 @@ module _ (laws : Laws) (pages : PageMap) (size : ℕ) (l : Listed) (db : Databas
 
       change_is : (a : Answer (List TableRow)) → rows_left c (held.rows_at t.root) ≡ a → change db (kind.Delete d) ≡ (a then λ left. Ok (with_left (Some c) known left))
       change_is a e =
-          laws.chosen db d t (held.rows_at t.root) c held.of_listed.quiet held.of_listed.named (listed (Some c) known) o.split.is.fit (bound (Some c) known)
+          laws.chosen db d t (held.rows_at t.root) c still held.of_listed.named (listed (Some c) known) o.split.is.fit (bound (Some c) known)
           ∙ ap (λ (x : Answer (List TableRow)). x then λ left. Ok (with_left (Some c) known left)) e
 
       take_makes : (new : PageMap) (result : Result ⊤ Fault) → DeletesInTrees pages new size t (Some c) result → Makes new result

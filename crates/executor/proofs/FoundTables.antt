@@ -9,13 +9,14 @@ use Rattle.std.specs.Prelude.{flat_map, option_map, bytes_eq}
 use Rattle.sqlval.specs.Lists.{any_twice}
 use Rattle.sqlval.specs.Names.{folded, is_same_name}
 use Rattle.catalog.specs.Database.{AnIndex, ATable, Database, Name, Object, object}
-use Rattle.catalog.specs.Listed.{Lists, index_objects, named_among, names_of, objects_of, as_index, with_rows, table_named, table_object, Listed, view_object}
+use Rattle.catalog.specs.Listed.{Lists, index_objects, named_among, names_of, objects_of, as_index, with_rows, table_named, table_object, treeless_names, treeless_objects, trigger_object, Listed, view_object}
 use Rattle.catalog.specs.Named.{IsOfListed}
 use Rattle.catalog.specs.declared.tables.Index.{Index}
 use Rattle.catalog.specs.declared.tables.Table.{Table}
 use Rattle.catalog.proofs.Found.{as_object, behind_found, listed_as}
 use Rattle.row_scan.specs.Rows.{TableRow}
 use Rattle.executor.specs.Changing.{IsIndexIn}
+use Rattle.catalog.specs.declared.tables.Trigger.{Trigger}
 use Rattle.catalog.specs.declared.tables.View.{View}
 
 -- the name of a listed table finds it
@@ -83,12 +84,21 @@ view_names : (views : List View) → names (map view_object views) ≡ map (λ (
 view_names [] = refl
 view_names (v ∷ vs) = ap (λ ns. v.definition.name ∷ ns) (view_names vs)
 
+trigger_names : (triggers : List Trigger) → names (map trigger_object triggers) ≡ map (λ (t : Trigger). t.definition.name) triggers
+trigger_names [] = refl
+trigger_names (t ∷ ts) = ap (λ ns. t.definition.name ∷ ns) (trigger_names ts)
+
+treeless_named : (l : Listed) → names (treeless_objects l) ≡ treeless_names l
+treeless_named l =
+    names_both (map view_object l.views) (map trigger_object l.triggers)
+    ∙ (ap (λ ns. ns ++ names (map trigger_object l.triggers)) (view_names l.views) ∙ ap (λ ns. map (λ (v : View). v.definition.name) l.views ++ ns) (trigger_names l.triggers))
+
 pub names_are : (rows_at : ℕ → List TableRow) (l : Listed) → names (objects_of rows_at l) ≡ names_of l
 names_are rows_at l =
-    names_both (map (table_object rows_at) l.tables) (map view_object l.views ++ flat_map index_objects l.tables)
-    ∙ (ap (λ ns. ns ++ names (map view_object l.views ++ flat_map index_objects l.tables)) (table_names rows_at l.tables)
-    ∙ ap (λ ns. map (λ (t : Table). t.name) l.tables ++ ns) (names_both (map view_object l.views) (flat_map index_objects l.tables)
-    ∙ (ap (λ ns. ns ++ names (flat_map index_objects l.tables)) (view_names l.views) ∙ ap (λ ns. map (λ (v : View). v.definition.name) l.views ++ ns) (all_index_names l.tables))))
+    names_both (map (table_object rows_at) l.tables) (treeless_objects l ++ flat_map index_objects l.tables)
+    ∙ (ap (λ ns. ns ++ names (treeless_objects l ++ flat_map index_objects l.tables)) (table_names rows_at l.tables)
+    ∙ ap (λ ns. map (λ (t : Table). t.name) l.tables ++ ns) (names_both (treeless_objects l) (flat_map index_objects l.tables)
+    ∙ (ap (λ ns. ns ++ names (flat_map index_objects l.tables)) (treeless_named l) ∙ ap (λ ns. treeless_names l ++ ns) (all_index_names l.tables))))
 
 module _ (rows_at : ℕ → List TableRow) (l : Listed) (db : Database) (is : IsOfListed rows_at l db) where
   abbrev all : List (Name × Object)
@@ -111,7 +121,7 @@ module _ (rows_at : ℕ → List TableRow) (l : Listed) (db : Database) (is : Is
   -- the name of each index of a listed table finds it
   pub indexes_listed : (front : List Table) (t : Table) (back : List Table) → l.tables ≡ front ++ t ∷ back → AllByRecursion (IsIndexIn db t) t.indexes
   indexes_listed front t back parts =
-      each_found t (map (table_object rows_at) l.tables ++ (map view_object l.views ++ flat_map index_objects front)) t.indexes (flat_map index_objects back)
-      (ap (λ os. map (table_object rows_at) l.tables ++ (map view_object l.views ++ os)) (ap (flat_map index_objects) parts ∙ flat_map-append index_objects front (t ∷ back))
-      ∙ (ap (λ os. map (table_object rows_at) l.tables ++ os) (sym (append_assoc (map view_object l.views) (flat_map index_objects front) (index_objects t ++ flat_map index_objects back)))
-      ∙ sym (append_assoc (map (table_object rows_at) l.tables) (map view_object l.views ++ flat_map index_objects front) (index_objects t ++ flat_map index_objects back))))
+      each_found t (map (table_object rows_at) l.tables ++ (treeless_objects l ++ flat_map index_objects front)) t.indexes (flat_map index_objects back)
+      (ap (λ os. map (table_object rows_at) l.tables ++ (treeless_objects l ++ os)) (ap (flat_map index_objects) parts ∙ flat_map-append index_objects front (t ∷ back))
+      ∙ (ap (λ os. map (table_object rows_at) l.tables ++ os) (sym (append_assoc (treeless_objects l) (flat_map index_objects front) (index_objects t ++ flat_map index_objects back)))
+      ∙ sym (append_assoc (map (table_object rows_at) l.tables) (treeless_objects l ++ flat_map index_objects front) (index_objects t ++ flat_map index_objects back))))

@@ -1,9 +1,7 @@
 -- The trees of a file's tables, whatever its schema table tells, and how they come out of a change.
 use Rattle.std.proofs.Common.{◌≡◌, ◌≤◌, ◌+◌, refl, sym, ap, subst, ◌∙◌, ℕ, Bool, true, false, List, [], ◌∷◌, ◌++◌, length, ◌==◌, cond, Some, arith}
 use Rattle.std.proofs.lemmas.Bool.Decides.{nat_tests}
-use Rattle.std.specs.List.{AllByRecursion, find}
-use Rattle.std.specs.Str.{bytes_eq}
-use Rattle.sqlval.specs.Names.{folded}
+use Rattle.std.specs.List.{AllByRecursion}
 use Rattle.std.proofs.lemmas.List.{append-nil}
 use Rattle.sqlval.specs.PageSizes.{IsPageSize}
 use Rattle.db_header.specs.Header.{IsHeader}
@@ -31,6 +29,7 @@ use Rattle.db_pages.specs.Stored.{AreHeld, Stores, all_trees, schema_tree}
 use Rattle.executor.specs.Holding.{HoldsListed, HoldsTrees}
 use Rattle.executor.proofs.Owners.{HasTable, found_among, joins, table_of_parts, trees_append, trees_around}
 use Rattle.executor.proofs.Roots.{roots_of, roots_once, roots_used}
+use Rattle.executor.proofs.Targets.{AreFit}
 use Rattle.executor.proofs.Telling.{as_rows, as_told, more_pages, once_told}
 
 -- ---- rows by roots
@@ -104,12 +103,13 @@ listed_held map size l db stored =
 
 -- with rows of the schema table that tell the tables, they are a database
 pub stores_of : (map : PageMap) (size : ℕ) (rows_at : ℕ → List TableRow) (l : Listed) (schema : List Entry) (db : Database) → HoldsTrees map size rows_at l.tables schema
-    → IsOfListed rows_at l db → AreRowsOf (length map) l schema → AllByRecursion HasKeyIndexes l.tables → Stores map size l db
-stores_of map size rows_at l schema db h of_listed tell keys = record {
+    → IsOfListed rows_at l db → AreRowsOf (length map) l schema → AllByRecursion HasKeyIndexes l.tables → AreFit l l.triggers → Stores map size l db
+stores_of map size rows_at l schema db h of_listed tell keys targets = record {
   rows_at = rows_at;
   of_listed = of_listed;
   once = once_told (length map) l schema tell;
   keys = keys;
+  targets = targets;
   header = h.header;
   header_is = h.header_is;
   sized = h.sized;
@@ -122,9 +122,9 @@ stores_of map size rows_at l schema db h of_listed tell keys = record {
   shared = h.shared;
 }
 
--- and so do these, where each key has its index
-abbrev pub stored_of : (map : PageMap) (size : ℕ) (l : Listed) (db : Database) → HoldsListed map size l db → AllByRecursion HasKeyIndexes l.tables → Stores map size l db
-stored_of map size l db held keys = stores_of map size held.rows_at l held.schema db held.trees held.of_listed held.tell keys
+-- and so do these, where each key has its index and each trigger its table or view
+abbrev pub stored_of : (map : PageMap) (size : ℕ) (l : Listed) (db : Database) → HoldsListed map size l db → AllByRecursion HasKeyIndexes l.tables → AreFit l l.triggers → Stores map size l db
+stored_of map size l db held keys targets = stores_of map size held.rows_at l held.schema db held.trees held.of_listed held.tell keys targets
 
 -- ---- changes
 
@@ -291,7 +291,4 @@ stores_rows map new size l db made stored t rows o now of_listed =
     (changed map size stored.rows_at l.tables stored.schema (trees_held map size l db stored) t o new t rows refl now.fit now.holds))
     of_listed
     (as_rows (length new) l (all_told l) stored.schema refl (more_pages (length map) (length new) now.holds.longer (all_told l) stored.schema (as_told (length map) l stored.schema stored.tell)))
-    stored.keys
-
-pub named_as : (tables : List Table) (a b : Name) → folded a ≡ folded b → table_named a tables ≡ table_named b tables
-named_as tables a b e = ap (λ n. find (λ t. bytes_eq (folded t.name) n) tables) e
+    stored.keys stored.targets

@@ -48,10 +48,11 @@ use Rattle.executor.specs.Listing.{AddsRow, AreTooLong, IsAdded}
 use Rattle.executor.specs.Works.{IsRefused, Makes, Reaches, RefusesWith, Work, change_made, clashes_in, clashes_on, index_clashes, made_index, of_known}
 use Rattle.executor.proofs.FoundTables.{indexes_listed, table_found}
 use Rattle.executor.specs.Holding.{IsListingRefusal, IsListedWith, IsToldBy}
-use Rattle.executor.proofs.HeldTrees.{named_as, stored_of}
+use Rattle.executor.proofs.HeldTrees.{stored_of}
 use Rattle.executor.proofs.KeyIndexes.{all_replaced, keys_with_index}
 use Rattle.executor.proofs.Owners.{found_among, one_of}
 use Rattle.executor.proofs.Roots.{all_apart, used_both, uses_root}
+use Rattle.executor.proofs.Targets.{AreFit, fit_with_other, named_as}
 use Rattle.executor.proofs.Replacing.{IsSplit, found_in_place, found_is, names_once, same_folded, split_at}
 use Rattle.executor.proofs.Wide.{known_long}
 use Rattle.executor.proofs.Telling.{AreToldBy, as_rows, as_told, free_at, many_retold, map_append, more_pages, one_more, same_indexes, same_table, told_around, told_as}
@@ -160,8 +161,8 @@ module _ (laws : Laws) (old : PageMap) (size : ℕ) (l : Listed) (db : Database)
     pub refused : (f : Fault) → IsListingRefusal t index d.name (Some sql) rows f → IsChangeRefusal (creating sql d) db f
     refused f (inl full) = inl full
     refused f (inr (inl (what, clash))) = inr (inl (subst (λ (g : Fault). RefusesWith (change_made (creating sql d) db) (refusal_of g)) (sym what) (refused_clash clash)))
-    refused f (inr (inr (inl (what, wide)))) = inr (inr (record { is = what; why = inl (ap is_wide (sym columns_long) ∙ wide) }))
-    refused f (inr (inr (inr (apart, (root, (what, long)))))) = inr (inr (record { is = what; why = inr (record { made = made; reaches = reached apart; long = (t.name, root, sym same_name, long) }) }))
+    refused f (inr (inr (inl (what, wide)))) = inr (inr (inl (record { is = what; why = inl (ap is_wide (sym columns_long) ∙ wide) })))
+    refused f (inr (inr (inr (apart, (root, (what, long)))))) = inr (inr (inl (record { is = what; why = inr (record { made = made; reaches = reached apart; long = (t.name, root, sym same_name, long) }) })))
 
     its_keys : HasKeyIndexes t
     its_keys = let a = found_among (is_table d.table) l.tables t is.on in one_of HasKeyIndexes a.front t a.back (subst (AllByRecursion HasKeyIndexes) a.parts held.keys)
@@ -173,5 +174,7 @@ module _ (laws : Laws) (old : PageMap) (size : ℕ) (l : Listed) (db : Database)
           made = made;
           reaches = reached is_listed.apart;
           stored = stored_of new size now_listed made is_listed.holds
-              (subst (λ (x : Listed). AllByRecursion HasKeyIndexes x.tables) (sym is_listed.listed) (all_replaced HasKeyIndexes (with_index i t) l.tables (keys_with_index t i refl its_keys) held.keys));
+              (subst (λ (x : Listed). AllByRecursion HasKeyIndexes x.tables) (sym is_listed.listed) (all_replaced HasKeyIndexes (with_index i t) l.tables (keys_with_index t i refl its_keys) held.keys))
+              (subst (λ (x : Listed). AreFit x x.triggers) (sym (is_listed.listed ∙ ap (λ (ts : List Table). record l { tables = ts }) (split.replaced (with_index i t) refl)))
+              (fit_with_other l split.before t (with_index i t) split.after split.parts refl refl held.targets));
         }

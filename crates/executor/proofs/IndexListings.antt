@@ -51,9 +51,10 @@ use Rattle.executor.specs.Listing.{AddsRow, AreTooLong, IsAdded}
 use Rattle.executor.specs.Works.{IsRefused, Makes, Reaches, RefusesWith, Work, change_made, clashes_in, clashes_on, index_clashes, made_index, of_known}
 use Rattle.executor.proofs.FoundTables.{indexes_listed, table_found}
 use Rattle.executor.specs.Holding.{HoldsListed, HoldsTrees, IsListingRefusal, IsListedWith, IsToldBy}
-use Rattle.executor.proofs.HeldTrees.{among, changed, named_as, page_size, rows_elsewhere, rows_here, rows_with, schema_stands, stores_of, trees_held, with_schema}
+use Rattle.executor.proofs.HeldTrees.{among, changed, page_size, rows_elsewhere, rows_here, rows_with, schema_stands, stores_of, trees_held, with_schema}
 use Rattle.executor.proofs.Owners.{HasTable, one_of, splits, table_of_parts}
 use Rattle.executor.proofs.Roots.{all_apart, used_both, uses_root}
+use Rattle.executor.proofs.Targets.{named_as}
 use Rattle.executor.proofs.Replacing.{IsSplit, found_in_place, found_is, names_once, same_folded, split_at}
 use Rattle.executor.proofs.Wide.{known_long}
 use Rattle.executor.proofs.Telling.{AreToldBy, as_rows, as_told, free_at, many_retold, map_append, more_pages, one_more, same_indexes, same_table, told_around, told_as, told_after}
@@ -228,7 +229,7 @@ module _ (laws : Laws) (old : PageMap) (size : ℕ) (l : Listed) (db : Database)
         new_row (Some text) same (d, name_is, creates, makes) = inl (record {
           sql = text;
           definition = d;
-          creates = (creates, refl);
+          creates = creates;
           makes = record {
             free = makes.free;
             once = makes.once;
@@ -246,13 +247,13 @@ module _ (laws : Laws) (old : PageMap) (size : ℕ) (l : Listed) (db : Database)
         front = tables_told split.before
 
         abbrev back : List Told
-        back = told_after split.after l.views
+        back = told_after split.after l
 
         abbrev again : List Told
         again = TableTold with_it ∷ map (λ j. IndexTold with_it j) t.indexes
 
         told_now : AreToldBy (length new) (front ++ (told_by t ++ back)) held.schema
-        told_now = told_as (length new) (all_told l) (front ++ (told_by t ++ back)) held.schema (ap (λ (ts : List Table). all_told (record l { tables = ts })) split.parts ∙ told_around split.before t split.after l.views)
+        told_now = told_as (length new) (all_told l) (front ++ (told_by t ++ back)) held.schema (ap (λ (ts : List Table). all_told (record l { tables = ts })) split.parts ∙ told_around split.before t split.after l)
             (more_pages (length old) (length new) (let first = now.longer in omega (arith, first, longer)) (all_told l) held.schema (as_told (length old) l held.schema held.tell))
 
         told_again : AreToldBy (length new) ((front ++ again) ++ back) held.schema
@@ -266,7 +267,7 @@ module _ (laws : Laws) (old : PageMap) (size : ℕ) (l : Listed) (db : Database)
         all_are : all_told listed ≡ (front ++ again) ++ IndexTold with_it i ∷ back
         all_are =
             ap (λ (ts : List Table). all_told (record l { tables = ts })) listed_are
-            ∙ (told_around split.before with_it split.after l.views
+            ∙ (told_around split.before with_it split.after l
             ∙ (ap (λ (xs : List Told). front ++ ((TableTold with_it ∷ xs) ++ back)) (map_append (λ j. IndexTold with_it j) t.indexes (i ∷ []))
             ∙ (ap (λ (xs : List Told). front ++ xs) (append_assoc again (IndexTold with_it i ∷ []) back) ∙ sym (append_assoc front again (IndexTold with_it i ∷ back)))))
 

@@ -19,8 +19,8 @@ use Rattle.pages.specs.Map.{PageMap}
 use Rattle.db_layout.specs.Trees.{AreAmong}
 use Rattle.catalog.specs.Database as database
 use Rattle.catalog.specs.Database.{ATable, Database, Name, Object, with_object}
-use Rattle.catalog.specs.Laws.{KeepsNoTrigger, ListsOtherRows}
-use Rattle.catalog.specs.Listed.{Lists, has_no_trigger, is_table, table_named, with_rows, Listed}
+use Rattle.catalog.specs.Laws.{ListsOtherRows}
+use Rattle.catalog.specs.Listed.{Lists, is_table, table_named, with_rows, Listed}
 use Rattle.catalog.specs.Named.{IsOfListed, KeepsNamed, ListsIndexes}
 use Rattle.catalog.specs.declared.tables.Column.{Column}
 use Rattle.catalog.specs.declared.tables.Table.{Table}
@@ -38,17 +38,18 @@ use Rattle.db_write.specs.Changing.{InsertsInTrees, IsRefusedInsert}
 use Rattle.row_change.proofs.GivenAsMeant.{columns_refused, row_placed, source_refused, source_stands, table_missing, value_places}
 use Rattle.trigger.specs.Binding.{IsFault}
 use Rattle.trigger.specs.Effects.{change, given_rows}
-use Rattle.trigger.specs.Laws.{BindsAlone, InsertAddsRows, InsertIsRefused, InsertOfNoneStays}
+use Rattle.trigger.specs.Laws.{BindsAlone, InsertAddsRows, InsertIsRefused, InsertOfNoneStays, SetsOffNothing}
 use Rattle.executor.specs.Changing.{IsChangeRefusal, IsMade}
 use Rattle.executor.specs.Reading.{AnswersRead}
 use Rattle.db_pages.specs.Stored.{Stores, all_trees, schema_tree}
 use Rattle.executor.specs.Works.{Reaches, RefusesWith, change_made, given_on, of_answer}
 use Rattle.executor.proofs.Owners.{HasTable}
 use Rattle.executor.specs.Holding.{HoldsTrees}
-use Rattle.executor.proofs.HeldTrees.{among, named_as, page_size, rows_elsewhere, rows_here, rows_with, stores_rows, held_table, trees_held}
+use Rattle.executor.proofs.HeldTrees.{among, page_size, rows_elsewhere, rows_here, rows_with, stores_rows, held_table, trees_held}
 use Rattle.executor.proofs.Roots.{own_pages}
 use Rattle.executor.proofs.FoundTables.{indexes_listed, table_found}
 use Rattle.executor.proofs.Replacing.{found_is, same_folded}
+use Rattle.executor.proofs.Targets.{named_as}
 use Rattle.executor.proofs.Wide.{indexes_of_table, wide_in}
 use Rattle.executor.proofs.KnownSources.{known_as}
 use Rattle.executor.specs.Refusing.{is_view_named}
@@ -56,7 +57,6 @@ use Rattle.executor.specs.Refusing.{is_view_named}
 -- what follows for every listed database, and for the trees of its file
 pub record Laws : Type 0 where
   pub lists : ListsOtherRows
-  pub quiet : KeepsNoTrigger
   pub named : KeepsNamed
   pub binds : BindsAlone
   pub refused : InsertIsRefused
@@ -80,7 +80,7 @@ listed_table rows_at l db name t lists named =
     ap table_in (table_found rows_at l db (folded name) t lists (named_folded l.tables name t named))
 
 -- binding it isn't refused
-pub not_refused : Laws → (db : Database) (i : Insert) (what : Resolved) → has_no_trigger db ≡ true → resolve_change db no_outer (kind.Insert i) ≡ Meant what [] → (r : Refusal) → IsFault db (kind.Insert i) r → ⊥
+pub not_refused : Laws → (db : Database) (i : Insert) (what : Resolved) → SetsOffNothing db (kind.Insert i) → resolve_change db no_outer (kind.Insert i) ≡ Meant what [] → (r : Refusal) → IsFault db (kind.Insert i) r → ⊥
 not_refused laws db i what only stands r is = nothing (subst (λ (k : Checked Resolved). Contains (faults k) r) stands ((laws.binds db (kind.Insert i) r only).0 is))
   where
     nothing : Contains [] r → ⊥
@@ -91,15 +91,15 @@ not_refused laws db i what only stands r is = nothing (subst (λ (k : Checked Re
 abbrev work : Insert → Database → Refusal → Type 0
 work i db r = RefusesWith (change_made (inserting i) db) r
 
-pub target_refused : (laws : Laws) (pages : PageMap) (size : ℕ) (l : Listed) (db : Database) (held : Stores pages size l db) (i : Insert) (plain : is_view_named l i.table ≡ false) (f : Fault) → IsTargetFault l.tables i f
+pub target_refused : (laws : Laws) (pages : PageMap) (size : ℕ) (l : Listed) (db : Database) (held : Stores pages size l db) (i : Insert) (still : SetsOffNothing db (kind.Insert i)) (plain : is_view_named l i.table ≡ false) (f : Fault) → IsTargetFault l.tables i f
     → IsChangeRefusal (inserting i) db f
-target_refused laws pages size l db held i plain f (inl memory) = inl (inl (inl memory))
-target_refused laws pages size l db held i plain f (inr (inl (e, none))) =
-    inr (inl (inl ((laws.binds db (kind.Insert i) (refusal_of f) held.of_listed.quiet).1
+target_refused laws pages size l db held i still plain f (inl memory) = inl (inl (inl memory))
+target_refused laws pages size l db held i still plain f (inr (inl (e, none))) =
+    inr (inl (inl ((laws.binds db (kind.Insert i) (refusal_of f) still).1
     (subst (Contains (faults (resolve_change db no_outer (kind.Insert i)))) (sym e)
     (table_missing db i.table i.columns i.source (known_as held.rows_at l db held.of_listed.lists i.table plain ∙ ap looked_up none))))))
-target_refused laws pages size l db held i plain f (inr (inr (t, named, list))) =
-    inr (inl (inl ((laws.binds db (kind.Insert i) (refusal_of f) held.of_listed.quiet).1
+target_refused laws pages size l db held i still plain f (inr (inr (t, named, list))) =
+    inr (inl (inl ((laws.binds db (kind.Insert i) (refusal_of f) still).1
     (columns_refused db i.table i.source t (known_as held.rows_at l db held.of_listed.lists i.table plain ∙ ap looked_up named) (held.once i.table t named) i.columns (refusal_of f) list))))
 
 -- ---- what its source gives
@@ -116,35 +116,7 @@ is_meant : {A B : Type 0} (f : A → B) (k : Checked A) (x : B) → known_map f 
 is_meant f (Meant y rs) x e = (ap (Meant y) (ap faults e), ap meant e)
 
 refused_so : (f : Fault) → RefusesWith (of_answer (Err (refusal_of f))) (refusal_of f)
-refused_so fault.Memory = (0, omega arith, refl)
-refused_so fault.Io = (0, omega arith, refl)
-refused_so fault.NotADatabase = (0, omega arith, refl)
-refused_so (fault.Unsupported feature) = (0, omega arith, refl)
-refused_so (fault.Damaged damage page) = (0, omega arith, refl)
-refused_so fault.Full = (0, omega arith, refl)
-refused_so (fault.Syntax place) = (0, omega arith, refl)
-refused_so (fault.NoSuch kind name) = (0, omega arith, refl)
-refused_so (fault.Exists name) = (0, omega arith, refl)
-refused_so (fault.Ambiguous name) = (0, omega arith, refl)
-refused_so (fault.Misuse misuse) = (0, omega arith, refl)
-refused_so fault.Busy = (0, omega arith, refl)
-refused_so fault.StaleSnapshot = (0, omega arith, refl)
-refused_so fault.NoTransaction = (0, omega arith, refl)
-refused_so fault.InTransaction = (0, omega arith, refl)
-refused_so fault.NoSavepoint = (0, omega arith, refl)
-refused_so fault.NotNull = (0, omega arith, refl)
-refused_so fault.Unique = (0, omega arith, refl)
-refused_so fault.Check = (0, omega arith, refl)
-refused_so (fault.Raised text) = (0, omega arith, refl)
-refused_so fault.RealRefused = (0, omega arith, refl)
-refused_so fault.TypeRefused = (0, omega arith, refl)
-refused_so fault.RowidFull = (0, omega arith, refl)
-refused_so fault.RowidMismatch = (0, omega arith, refl)
-refused_so fault.TooLong = (0, omega arith, refl)
-refused_so fault.RowChangedBefore = (0, omega arith, refl)
-refused_so fault.ViewReadOnly = (0, omega arith, refl)
-refused_so fault.Failed = (0, omega arith, refl)
-refused_so fault.Blank = (0, omega arith, refl)
+refused_so f = (0, omega arith, refl)
 
 -- The INSERT isn't refused and has this source, whose rows are these. Each gives the table's columns the same values by their places
 -- in the row, where they have one, as by the place of each value's column.
@@ -155,7 +127,7 @@ pub record IsGivenAs (db : Database) (i : Insert) (t : Table) (places : List (Op
   pub answered : given_rows db no_outer source ≡ Ok rows
   pub placed : AllByRecursion (IsSetFor t places at) rows
 
-module _ (laws : Laws) (pages : PageMap) (size : ℕ) (l : Listed) (db : Database) (held : Stores pages size l db) (i : Insert) (plain : is_view_named l i.table ≡ false) (t : Table) (n : ℕ) (named : table_named i.table l.tables ≡ Some t)
+module _ (laws : Laws) (pages : PageMap) (size : ℕ) (l : Listed) (db : Database) (held : Stores pages size l db) (i : Insert) (still : SetsOffNothing db (kind.Insert i)) (plain : is_view_named l i.table ≡ false) (t : Table) (n : ℕ) (named : table_named i.table l.tables ≡ Some t)
     (columns : AreColumns t.columns i.columns) (n_is : n ≡ count_wanted i.columns t) where
   found : look_up db i.table ≡ good (columns_seen t)
   found = known_as held.rows_at l db held.of_listed.lists i.table plain ∙ ap looked_up named
@@ -168,7 +140,7 @@ module _ (laws : Laws) (pages : PageMap) (size : ℕ) (l : Listed) (db : Databas
 
   pub rows_refused : (f : Fault) → AnswersRead {X = List (List Value)} (λ rows. rows) (given_on db n i.source) (Err f) → IsChangeRefusal (inserting i) db f
   rows_refused f (inl outside) = inl (inl outside)
-  rows_refused f (inr (inl has)) = inr (inl (inl ((laws.binds db (kind.Insert i) (refusal_of f) held.of_listed.quiet).1
+  rows_refused f (inr (inl has)) = inr (inl (inl ((laws.binds db (kind.Insert i) (refusal_of f) still).1
       (source_refused db i.table i.source t found once i.columns (refusal_of f) (subst (λ m. Contains (faults (source_known db m i)) (refusal_of f)) n_is (in_it (source_known db n i) has))))))
     where
       in_it : (k : Checked Given) → Contains (faults (known_map (given_rows db no_outer) k)) (refusal_of f) → Contains (faults k) (refusal_of f)
@@ -177,7 +149,7 @@ module _ (laws : Laws) (pages : PageMap) (size : ℕ) (l : Listed) (db : Databas
       let is = is_meant (given_rows db no_outer) (source_known db n i) (Err (refusal_of f)) e in
       let stands = stands_so (meant (source_known db n i)) is.0 in
       let refused = laws.refused db i t (held.rows_at t.root) (value_places t i.columns) (meant (source_known db n i)) (refusal_of f) (listed_table held.rows_at l db i.table t held.of_listed.lists named) stands is.1 in
-      inr (inl (inr (not_refused laws db i _ held.of_listed.quiet stands, subst (λ (a : Answer Database). RefusesWith (of_answer a) (refusal_of f)) (sym refused) (refused_so f))))
+      inr (inl (inr (not_refused laws db i _ still stands, subst (λ (a : Answer Database). RefusesWith (of_answer a) (refusal_of f)) (sym refused) (refused_so f))))
 
   pub given_as : (rows : List (List Value)) (places : List (Option ℕ)) → places ≡ places_in t.columns i.columns → given_on db n i.source ≡ Meant (Ok rows) [] → AllByRecursion (λ vs. length vs ≡ n) rows
       → IsGivenAs db i t places rows
@@ -224,7 +196,7 @@ not_none : (rows : List TableRow) (r : Refusal) → rows_answer rows ≡ Err r �
 not_none rows r e = absurd cc
 
 module _ (laws : Laws) (pages : PageMap) (size : ℕ) (l : Listed) (db : Database) (held : Stores pages size l db) (i : Insert) (t : Table) (places : List (Option ℕ)) (given : List (List Value)) (named : table_named i.table l.tables ≡ Some t)
-    (is : IsGivenAs db i t places given) (long : length places ≡ length t.columns) where
+    (still : SetsOffNothing db (kind.Insert i)) (is : IsGivenAs db i t places given) (long : length places ≡ length t.columns) where
   owned : HasTable held.rows_at l.tables held.held t
   owned = held_table pages size l db held i.table t named
 
@@ -241,7 +213,7 @@ module _ (laws : Laws) (pages : PageMap) (size : ℕ) (l : Listed) (db : Databas
 
   change_is : 1 ≤ length given → change db (kind.Insert i) ≡ changed given
   change_is some =
-      laws.inserts db i t (held.rows_at t.root) is.at is.source places given held.of_listed.quiet (indexes_of_table laws.indexes held.rows_at l db i.table t held.of_listed named)
+      laws.inserts db i t (held.rows_at t.root) is.at is.source places given still (indexes_of_table laws.indexes held.rows_at l db i.table t held.of_listed named)
       (listed_table held.rows_at l db i.table t held.of_listed.lists named) owned.split.is.fit is.stands is.answered set_for some
 
   pub made : (now : List TableRow) → rows_inserted t places (held.rows_at t.root) given ≡ Ok now → IsMadeOf held.rows_at l db i t now
@@ -261,7 +233,6 @@ module _ (laws : Laws) (pages : PageMap) (size : ℕ) (l : Listed) (db : Databas
             is = laws.none db i t (held.rows_at t.root) is.at is.source (listed_table held.rows_at l db i.table t held.of_listed.lists named) is.stands (is.answered ∙ ap (λ (rows : List (List Value)). Ok rows) none);
             of_listed = record {
               lists = subst (λ (rows_at : ℕ → List TableRow). Lists rows_at l db) (λ k root. same still root k) held.of_listed.lists;
-              quiet = held.of_listed.quiet;
               named = held.of_listed.named;
               once = held.of_listed.once;
             };
@@ -272,17 +243,16 @@ module _ (laws : Laws) (pages : PageMap) (size : ℕ) (l : Listed) (db : Databas
         of_listed = record {
           lists = laws.lists held.rows_at l db (folded i.table) t now held.of_listed.lists (named_folded l.tables i.table t named)
               (λ other u found here. own_pages pages size l db held other (folded i.table) u t found (named_folded l.tables i.table t named) here);
-          quiet = laws.quiet db (folded i.table) (ATable (with_rows t now)) held.of_listed.quiet refl;
           named = laws.named db (folded i.table) (ATable (with_rows t now)) held.of_listed.named;
           once = held.of_listed.once;
         };
       }
 
   pub reaches : (made : Database) → change db (kind.Insert i) ≡ Ok made → Reaches (change_made (inserting i) db) made
-  reaches made e = (not_refused laws db i _ held.of_listed.quiet is.stands, subst (λ (a : Answer Database). Reaches (of_answer a) made) (sym e) refl)
+  reaches made e = (not_refused laws db i _ still is.stands, subst (λ (a : Answer Database). Reaches (of_answer a) made) (sym e) refl)
 
   pub refused : (f : Fault) → rows_inserted t places (held.rows_at t.root) given ≡ Err (refusal_of f) → work i db (refusal_of f)
-  refused f e = inr (not_refused laws db i _ held.of_listed.quiet is.stands, subst (λ (a : Answer Database). RefusesWith (of_answer a) (refusal_of f)) (sym (by (some_or_none given))) (refused_so f))
+  refused f e = inr (not_refused laws db i _ still is.stands, subst (λ (a : Answer Database). RefusesWith (of_answer a) (refusal_of f)) (sym (by (some_or_none given))) (refused_so f))
     where
       by : (given ≡ []) ⊎ (1 ≤ length given) → change db (kind.Insert i) ≡ Err (refusal_of f)
       by (inl none) = absurd (not_none (held.rows_at t.root) (refusal_of f) (subst (λ rows. rows_inserted t places (held.rows_at t.root) rows ≡ Err (refusal_of f)) none e))
@@ -292,7 +262,7 @@ module _ (laws : Laws) (pages : PageMap) (size : ℕ) (l : Listed) (db : Databas
   put_refused f (inl outside) = inl outside
   put_refused f (inr (inl as_rows)) = inr (inl (refused f as_rows))
   put_refused f (inr (inr (what, wide))) =
-      inr (inr (record { is = what; why = inl (wide_in db t i.table (same_folded t.name i.table (found_is (is_table i.table) l.tables t named)) (indexes_listed held.rows_at l db held.of_listed owned.front t owned.back owned.tables_are) wide) }))
+      inr (inr (inl (record { is = what; why = inl (wide_in db t i.table (same_folded t.name i.table (found_is (is_table i.table) l.tables t named)) (indexes_listed held.rows_at l db held.of_listed owned.front t owned.back owned.tables_are) wide) })))
 
   abbrev trees : HoldsTrees pages size held.rows_at l.tables held.schema
   trees = trees_held pages size l db held

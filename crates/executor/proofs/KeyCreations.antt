@@ -12,7 +12,7 @@ use Rattle.sqlval.specs.declared.collation.Collation.{Collation}
 use Rattle.sqlval.specs.declared.fault.Fault.{Fault}
 use Rattle.pages.specs.Map.{PageMap}
 use Rattle.catalog.specs.Database.{AnIndex, Database, Name, Object, name_order, with_object}
-use Rattle.catalog.specs.Listed.{as_index, has_index, has_table_name, is_name_of, is_reserved, is_table, key_columns, table_named, with_replaced, Listed, is_view}
+use Rattle.catalog.specs.Listed.{as_index, has_index, has_table_name, is_name_of, is_reserved, is_table, key_columns, table_named, with_replaced, Listed, is_trigger, is_view}
 use Rattle.catalog.specs.NewIndexes.{with_index, replacing}
 use Rattle.catalog.specs.declared.tables.Index.{Index}
 use Rattle.catalog.specs.declared.tables.IndexColumn.{IndexColumn}
@@ -26,7 +26,7 @@ use Rattle.db_pages.specs.Schema.{due_objects, schema_row}
 use Rattle.executor.specs.Holding.{AreNewNames, HoldsListed, IsKeyRefusal, IsKeyed, IsListingRefusal, IsListedWith, IsToldBy, key_index}
 use Rattle.executor.specs.Listing.{AreTooLong}
 use Rattle.executor.proofs.FoundTables.{neither, same_bytes}
-use Rattle.executor.proofs.HeldTrees.{named_as}
+use Rattle.executor.proofs.Targets.{named_as}
 use Rattle.executor.proofs.NewNames.{name_is, rest_same, same_after}
 use Rattle.executor.proofs.Replacing.{IsSplit, found_in_place, found_is, names_once, same_folded, split_at}
 
@@ -205,10 +205,10 @@ module _ (old : PageMap) (size : ℕ) (before : Listed) (db : Database) (held : 
       pub name_is_new : is_name_of now index.name ≡ false
       name_is_new =
           ap (λ (x : Listed). is_name_of x index.name) (k.listed ∙ ap (λ (ts : List Table). record before { tables = ts }) (split.replaced k.keyed same_name))
-          ∙ (ap (λ b. b || list_any (is_view index.name) before.views) (any_between (has_table_name index.name) split.before table k.keyed split.after none_before none_here) ∙ both_new.1)
+          ∙ (ap (λ b. b || (list_any (is_view index.name) before.views || list_any (is_trigger index.name) before.triggers)) (any_between (has_table_name index.name) split.before table k.keyed split.after none_before none_here) ∙ both_new.1)
         where
-          both_new : (list_any (has_table_name index.name) before.tables ≡ false) × (list_any (is_view index.name) before.views ≡ false)
-          both_new = neither (list_any (has_table_name index.name) before.tables) (list_any (is_view index.name) before.views) (new_names (place + 1))
+          both_new : (list_any (has_table_name index.name) before.tables ≡ false) × ((list_any (is_view index.name) before.views || list_any (is_trigger index.name) before.triggers) ≡ false)
+          both_new = neither (list_any (has_table_name index.name) before.tables) (list_any (is_view index.name) before.views || list_any (is_trigger index.name) before.triggers) (new_names (place + 1))
 
           none_before : list_any (has_table_name index.name) (split.before ++ table ∷ split.after) ≡ false
           none_before = subst (λ (ts : List Table). list_any (has_table_name index.name) ts ≡ false) split.parts both_new.0

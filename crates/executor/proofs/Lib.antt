@@ -12,10 +12,15 @@ pub mod IndexListings
 pub mod Insertions
 pub mod KeyCreations
 pub mod KeyIndexes
-mod KeptViews
+mod KeptTexts
 mod KnownSources
 mod ViewCreations
 mod ViewDroppings
+mod TriggerCreations
+mod TriggerDroppings
+mod TriggerRows
+pub mod Targets
+pub mod Splitting
 pub mod LoadedSources
 pub mod NewNames
 pub mod Owners

@@ -11,17 +11,18 @@ use Rattle.sqlval.specs.declared.collation.Collation.{Collation}
 use Rattle.tree_leaf.specs.Leaf.{Entry}
 use Rattle.tree_page.specs.Cells.{Pairwise}
 use Rattle.catalog.specs.Database.{AnIndex, Name, Object}
-use Rattle.catalog.specs.Listed.{as_index, has_index, has_table_name, is_name_of, is_reserved, is_table, key_columns, Listed, is_view}
+use Rattle.catalog.specs.Listed.{as_index, has_index, has_table_name, is_name_of, is_reserved, is_table, is_trigger, key_columns, Listed, is_view}
 use Rattle.catalog.specs.declared.tables.Index.{Index}
 use Rattle.catalog.specs.declared.tables.Table.{Table}
 use Rattle.query_names.specs.Schema.{automatic, automatic_name}
 use Rattle.query_names.proofs.ColumnNames.{folded_twice}
-use Rattle.db_pages.specs.Schema.{AreRowsOf, HasKeyIndexes, IndexTold, TableTold, Tells, Told, all_told, automatic_objects, due_objects, told_by, ViewTold, tables_told}
+use Rattle.db_pages.specs.Schema.{AreRowsOf, HasKeyIndexes, IndexTold, TableTold, Tells, Told, all_told, automatic_objects, due_objects, told_by, TriggerTold, ViewTold, tables_told}
 use Rattle.db_pages.proofs.Reordering.{all_reordered, reordered_all}
 use Rattle.executor.specs.Holding.{AreNewNames}
 use Rattle.executor.proofs.FoundTables.{neither}
 use Rattle.executor.proofs.Replacing.{folded_same, not_same}
-use Rattle.executor.proofs.Telling.{all_after, map_append}
+use Rattle.executor.proofs.Telling.{all_after, all_before, map_append, treeless_told}
+use Rattle.catalog.specs.declared.tables.Trigger.{Trigger}
 use Rattle.catalog.specs.declared.tables.View.{View}
 
 -- ---- digits
@@ -111,6 +112,7 @@ abbrev IsFreeTold : Told → Type 0
 IsFreeTold (TableTold t) = is_reserved t.name ≡ false
 IsFreeTold (IndexTold t i) = (is_reserved i.name ≡ false) ⊎ (i.is_automatic ≡ true)
 IsFreeTold (ViewTold v) = is_reserved v.definition.name ≡ false
+IsFreeTold (TriggerTold t) = is_reserved t.definition.name ≡ false
 
 told_free : (pages : ℕ) (items : List Told) (rows : List Entry) → Pairwise (Tells pages) items rows → AllByRecursion IsFreeTold items
 told_free pages [] rows each = tt
@@ -122,6 +124,7 @@ told_free pages (IndexTold t i ∷ items) (row ∷ rows) each = (by each.0, told
     by (inl is) = inl (ap is_reserved is.makes.name_is ∙ is.makes.free)
     by (inr is) = inr is.automatic
 told_free pages (ViewTold v ∷ items) (row ∷ rows) each = (each.0.free, told_free pages items rows each.1)
+told_free pages (TriggerTold t ∷ items) (row ∷ rows) each = (each.0.free, told_free pages items rows each.1)
 
 -- ---- names of automatic indexes
 
@@ -183,15 +186,20 @@ module _ (name : Name) (number : ℕ) where
   other_views [] free = refl
   other_views (v ∷ vs) free = ap (λ b. b || list_any (is_view wanted) vs) (not_reserved v.definition.name name number free.0) ∙ other_views vs free.1
 
-all_before : {A : Type 0} (P : A → Type 0) (xs ys : List A) → AllByRecursion P (xs ++ ys) → AllByRecursion P xs
-all_before P [] ys all = tt
-all_before P (x ∷ xs) ys all = (all.0, all_before P xs ys all.1)
+  other_triggers : (triggers : List Trigger) → AllByRecursion IsFreeTold (map TriggerTold triggers) → list_any (is_trigger wanted) triggers ≡ false
+  other_triggers [] free = refl
+  other_triggers (t ∷ ts) free = ap (λ b. b || list_any (is_trigger wanted) ts) (not_reserved t.definition.name name number free.0) ∙ other_triggers ts free.1
+
+  other_treeless : (l : Listed) → AllByRecursion IsFreeTold (treeless_told l) → (list_any (is_view wanted) l.views || list_any (is_trigger wanted) l.triggers) ≡ false
+  other_treeless l free =
+      ap (λ b. b || list_any (is_trigger wanted) l.triggers) (other_views l.views (all_before IsFreeTold (map ViewTold l.views) (map TriggerTold l.triggers) free))
+      ∙ other_triggers l.triggers (all_after IsFreeTold (map ViewTold l.views) (map TriggerTold l.triggers) free)
 
 -- where nothing that is listed has a name, nothing has that of an automatic index of a table of this name
 pub automatic_names_are_new : (pages : ℕ) (l : Listed) (rows : List Entry) → AreRowsOf pages l rows → AllByRecursion HasKeyIndexes l.tables → (name : Name) → is_name_of l name ≡ false
     → AreNewNames l name
 automatic_names_are_new pages l rows tell keys name none number =
     let free = all_reordered IsFreeTold tell.told (all_told l) tell.all (told_free pages tell.told rows tell.each) in
-    let here = neither (list_any (has_table_name name) l.tables) (list_any (is_view name) l.views) none in
-    ap (λ b. b || list_any (is_view (wanted name number)) l.views) (other_names name number l.tables (all_before IsFreeTold (tables_told l.tables) (map ViewTold l.views) free) keys here.0)
-    ∙ other_views name number l.views (all_after IsFreeTold (tables_told l.tables) (map ViewTold l.views) free)
+    let here = neither (list_any (has_table_name name) l.tables) (list_any (is_view name) l.views || list_any (is_trigger name) l.triggers) none in
+    ap (λ b. b || (list_any (is_view (wanted name number)) l.views || list_any (is_trigger (wanted name number)) l.triggers)) (other_names name number l.tables (all_before IsFreeTold (tables_told l.tables) (treeless_told l) free) keys here.0)
+    ∙ other_treeless name number l (all_after IsFreeTold (tables_told l.tables) (treeless_told l) free)

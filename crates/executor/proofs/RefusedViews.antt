@@ -1,10 +1,9 @@
 -- Why a change of a view is refused: as its names are, or else since a view can't be changed.
 use Rattle.std.proofs.Common.{◌≡◌, inl, inr, refl, sym, ap, subst, ◌∙◌, ℕ, ◌++◌, ◌&&◌, ◌||◌, Bool, true, false, List, [], ◌∷◌, length, map, Option, Some, None, Result, Ok, Err, arith}
 use Rattle.std.specs.Prelude.{⊤, Contains, IsErrAnd, MatchOption, MatchResult, find, is_none, is_some, bytes_eq, zip}
-use Rattle.std.specs.List.{list_any}
 use Rattle.std.proofs.lemmas.Bool.{false≢true}
 use Rattle.sqlval.specs.Names.{folded}
-use Rattle.sqlval.specs.Refusals.{Refusal, ViewReadOnly, refusal_of}
+use Rattle.sqlval.specs.Refusals.{Refusal, Unsupported, ViewReadOnly, refusal_of}
 use Rattle.sqlval.specs.declared.fault.Fault.{Fault}
 use Rattle.sqlval.specs.declared.fault.Fault.TheVariants as fault
 use Rattle.sql_syntax.specs.declared.change.Change.{Change}
@@ -33,11 +32,12 @@ use Rattle.query_names.proofs.PartRefusals.{left, mapped, right}
 use Rattle.query_terms.specs.Terms.{Term}
 use Rattle.query_bind.specs.Assigned.{columns_set}
 use Rattle.query_bind.proofs.Chains.{in_front, refused_first, then_good}
+use Rattle.row_change.specs.RowChanges.{is_quiet}
 use Rattle.row_change.specs.Changes.{Given, Inserts, Updates, Deletes, Resolved, insert_places, no_outer, resolve_change, resolve_given, resolve_sets, target, wanted}
 use Rattle.row_scan.specs.Rows.{TableRow}
 use Rattle.trigger.specs.Binding.{IsFault, aim_of}
 use Rattle.trigger.specs.Effects.{change}
-use Rattle.trigger.specs.Laws.{BindsAlone, ViewsAreReadOnly}
+use Rattle.trigger.specs.Laws.{BindsAlone, SetsOffNothing, ViewsAreReadOnly}
 use Rattle.executor.specs.Changing.{IsChangeRefusal}
 use Rattle.executor.specs.Refusing.{IsKnownOr, is_view_named}
 use Rattle.executor.specs.Works.{RefusesWith, of_answer}
@@ -48,11 +48,10 @@ pub passed_on : {X B : Type 0} (whole : Checked B) (r : Result X Fault) (f : Fau
 passed_on whole (Ok x) f is why = absurd is
 passed_on whole (Err e) f is why = subst (IsFaultOf (faults whole)) (sym is) why
 
--- what a name stands for, as a source: nothing of it is refused, and it is none of a trigger's
+-- what a name stands for, as a source: nothing of it is refused
 pub record IsTarget (db : Database) (name : Name) (source : ScopeSource) : Type 0 where
   pub is : target db name ≡ Meant source []
   pub known : source.is_known ≡ true
-  pub outside : list_any (λ (s : ScopeSource). s.needs_name) (source ∷ []) ≡ false
 
 abbrev as_named : Name → List ScopeColumn × Bool → ScopeSource
 as_named name found = source_of (folded name) (good found)
@@ -68,7 +67,6 @@ target_is db name source is = by (look_up db name) refl is
     by (Meant x []) here e = record {
       is = ap (λ k. noted k and_then λ found. good (source_of (folded name) found)) here ∙ e;
       known = sym (ap (λ (k : Checked ScopeSource). (meant k).is_known) e);
-      outside = sym (ap (λ (k : Checked ScopeSource). list_any (λ (s : ScopeSource). s.needs_name) (meant k ∷ [])) e);
     }
 
 pub target_refused : (db : Database) (name : Name) (f : Fault) → IsFaultOf (faults (known_map (as_named name) (look_up db name))) f → IsFaultOf (faults (target db name)) f
@@ -181,6 +179,10 @@ module _ (db : Database) (d : Delete) where
 
 -- ---- what it comes to
 
+-- a trigger waits for it
+pub sets_off : (c : Change) (db : Database) (f : Fault) → (refusal_of f ≡ Unsupported) × (is_quiet (aim_of c).event db (aim_of c).target ≡ false) → IsChangeRefusal (statement.Change c) db f
+sets_off c db f (is, some) = inr (inr (inr (record { is = is; change = c; change_is = refl; some = some })))
+
 both_are : (a b : Bool) → a && b ≡ true → (a ≡ true) × (b ≡ true)
 both_are true true h = (refl, refl)
 both_are true false h = absurd (false≢true h)
@@ -196,7 +198,7 @@ view_is finds rows_at l db is name named =
     (ap (λ n. is_some (find (λ (v : ListedView). bytes_eq (folded v.definition.name) n) l.views)) (folded_twice name) ∙ h.1)
     (finds rows_at l db (folded name) is.lists)
   where
-    view : (found : Option ListedView) → is_some found ≡ true → MatchOption found (IsNoSource (object db (folded name))) (λ v. object db (folded name) ≡ Some (AView (as_view v))) → (v : ListedView) × (object db (folded name) ≡ Some (AView (as_view v)))
+    view : (found : Option ListedView) → is_some found ≡ true → MatchOption found (IsNoSource l (folded name) (object db (folded name))) (λ v. object db (folded name) ≡ Some (AView (as_view v))) → (v : ListedView) × (object db (folded name) ≡ Some (AView (as_view v)))
     view None some h = absurd (false≢true some)
     view (Some v) some h = (v, h)
 
@@ -205,14 +207,14 @@ view_is finds rows_at l db is name named =
     by (Some t) none some h = absurd (false≢true none)
     by None none some h = view (view_named (folded name) l.views) some h
 
-module _ (binds : BindsAlone) (finds : FindsListed) (rows_at : ℕ → List TableRow) (l : Listed) (db : Database) (is : IsOfListed rows_at l db) (c : Change) where
+module _ (binds : BindsAlone) (finds : FindsListed) (rows_at : ℕ → List TableRow) (l : Listed) (db : Database) (is : IsOfListed rows_at l db) (c : Change) (still : SetsOffNothing db c) where
   -- as its names are
   pub refused_as_named : (f : Fault) → IsFaultOf (faults (resolve_change db no_outer c)) f → IsChangeRefusal (statement.Change c) db f
   refused_as_named f (inl memory) = inl (inl (inl memory))
-  refused_as_named f (inr has) = inr (inl (inl ((binds db c (refusal_of f) is.quiet).1 has)))
+  refused_as_named f (inr has) = inr (inl (inl ((binds db c (refusal_of f) still).1 has)))
 
   not_refused : faults (resolve_change db no_outer c) ≡ [] → (r : Refusal) → IsFault db c r → ⊥
-  not_refused none r fault = nothing (subst (λ (rs : List Refusal). Contains rs r) none ((binds db c r is.quiet).0 fault))
+  not_refused none r fault = nothing (subst (λ (rs : List Refusal). Contains rs r) none ((binds db c r still).0 fault))
     where
       nothing : Contains [] r → ⊥
       nothing has = absurd (omega (arith, has.1))
@@ -222,4 +224,4 @@ module _ (binds : BindsAlone) (finds : FindsListed) (rows_at : ℕ → List Tabl
       → IsChangeRefusal (statement.Change c) db fault.ViewReadOnly
   refused_as_view views name aims named none =
       let found = view_is finds rows_at l db is name named in
-      inr (inl (inr (not_refused none, subst (λ a. RefusesWith (of_answer a) ViewReadOnly) (sym (views db c (as_view found.0) is.quiet (ap (object db) aims ∙ found.1) none)) (0, omega arith, refl))))
+      inr (inl (inr (not_refused none, subst (λ a. RefusesWith (of_answer a) ViewReadOnly) (sym (views db c (as_view found.0) still (ap (object db) aims ∙ found.1) none)) (0, omega arith, refl))))

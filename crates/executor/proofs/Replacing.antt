@@ -9,11 +9,10 @@ use Rattle.std.specs.Prelude.{bytes_eq, flat_map}
 use Rattle.sqlval.specs.Lists.{any_twice}
 use Rattle.sqlval.specs.Names.{folded, is_same_name}
 use Rattle.catalog.specs.Database.{Name}
-use Rattle.catalog.specs.Listed.{are_named_once, is_table, names_of, table_named, with_replaced, without_table, Listed}
+use Rattle.catalog.specs.Listed.{are_named_once, is_table, names_of, table_named, treeless_names, with_replaced, without_table, Listed}
 use Rattle.catalog.specs.declared.tables.Index.{Index}
 use Rattle.catalog.specs.declared.tables.Table.{Table}
 use Rattle.executor.proofs.FoundTables.{neither, no_no, same_bytes}
-use Rattle.catalog.specs.declared.tables.View.{View}
 
 -- ---- names
 
@@ -42,7 +41,7 @@ turned a b other = not_same b a (λ e. false≢true (sym other ∙ folded_same a
 abbrev pub table_names : List Table → List Name
 table_names tables = map (λ (t : Table). t.name) tables
 
-once_first : (xs ys : List Name) → any_twice is_same_name (xs ++ ys) ≡ false → any_twice is_same_name xs ≡ false
+pub once_first : (xs ys : List Name) → any_twice is_same_name (xs ++ ys) ≡ false → any_twice is_same_name xs ≡ false
 once_first [] ys once = refl
 once_first (x ∷ xs) ys once =
     let both = neither (list_any (is_same_name x) (xs ++ ys)) (any_twice is_same_name (xs ++ ys)) once in
@@ -52,13 +51,13 @@ once_first (x ∷ xs) ys once =
     first_part p [] ys none = refl
     first_part p (x ∷ xs) ys none = let both = neither (p x) (list_any p (xs ++ ys)) none in ap (λ b. b || list_any p xs) both.0 ∙ first_part p xs ys both.1
 
-once_last : (xs ys : List Name) → any_twice is_same_name (xs ++ ys) ≡ false → any_twice is_same_name ys ≡ false
+pub once_last : (xs ys : List Name) → any_twice is_same_name (xs ++ ys) ≡ false → any_twice is_same_name ys ≡ false
 once_last [] ys once = once
 once_last (x ∷ xs) ys once = once_last xs ys (neither (list_any (is_same_name x) (xs ++ ys)) (any_twice is_same_name (xs ++ ys)) once).1
 
 pub names_once : (l : Listed) → are_named_once l ≡ true → any_twice is_same_name (table_names l.tables) ≡ false
 names_once l once =
-    once_first (table_names l.tables) (map (λ (v : View). v.definition.name) l.views ++ flat_map (λ (t : Table). map (λ (i : Index). i.name) t.indexes) l.tables) (no_no (any_twice is_same_name (names_of l)) once)
+    once_first (table_names l.tables) (treeless_names l ++ flat_map (λ (t : Table). map (λ (i : Index). i.name) t.indexes) l.tables) (no_no (any_twice is_same_name (names_of l)) once)
 
 -- where none has its name, none is replaced and none left out
 none_replaced : (new : Table) (tables : List Table) → list_any (is_same_name new.name) (table_names tables) ≡ false → with_replaced new tables ≡ tables
@@ -209,8 +208,8 @@ group_once (u ∷ front) t back once = group_once front t back (once_last (index
 -- the names of a listed table's indexes stand once
 pub indexes_once : (l : Listed) (front : List Table) (t : Table) (back : List Table) → l.tables ≡ front ++ t ∷ back → are_named_once l ≡ true → any_twice is_same_name (index_names t.indexes) ≡ false
 indexes_once l front t back parts once =
-    group_once front t back (once_last (map (λ (v : View). v.definition.name) l.views) (flat_map (λ (t : Table). index_names t.indexes) (front ++ t ∷ back))
-    (once_last (table_names (front ++ t ∷ back)) (map (λ (v : View). v.definition.name) l.views ++ flat_map (λ (t : Table). index_names t.indexes) (front ++ t ∷ back))
+    group_once front t back (once_last (treeless_names l) (flat_map (λ (t : Table). index_names t.indexes) (front ++ t ∷ back))
+    (once_last (table_names (front ++ t ∷ back)) (treeless_names l ++ flat_map (λ (t : Table). index_names t.indexes) (front ++ t ∷ back))
     (subst (λ (ts : List Table). any_twice is_same_name (names_of (record l { tables = ts })) ≡ false) parts (no_no (any_twice is_same_name (names_of l)) once))))
 
 -- what is true of one of them is found

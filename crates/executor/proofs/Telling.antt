@@ -16,12 +16,13 @@ use Rattle.query_names.specs.Bound.{AreOnce, is_twice_named}
 use Rattle.query_names.specs.Creating.{HasColumnsOf, has_doubled}
 use Rattle.query_names.proofs.CreatedTables.{keeps_once}
 use Rattle.db_pages.specs.Reordering.{AreReordered}
-use Rattle.db_pages.specs.Schema.{AreRowsOf, HasRowOf, IndexTold, TableTold, Tells, Told, all_told, told_by, ViewTold, tables_told}
+use Rattle.db_pages.specs.Schema.{AreRowsOf, HasRowOf, IndexTold, TableTold, Tells, Told, all_told, told_by, TriggerTold, ViewTold, tables_told}
 use Rattle.db_pages.proofs.Reordering.{all_reordered, is_reordered, reordered_between, reordered_map, reordered_sym, reordered_without}
 use Rattle.executor.specs.Listing.{AreThere, without_rows}
 use Rattle.executor.proofs.FoundTables.{neither, same_bytes}
 use Rattle.executor.proofs.Owners.{found_among, joins, one_of, splits}
 use Rattle.executor.proofs.SchemaRows.{AreDistinct, distinct_before, distinct_left, goes_between, there_at, without_at}
+use Rattle.catalog.specs.declared.tables.Trigger.{Trigger}
 use Rattle.catalog.specs.declared.tables.View.{View}
 
 -- the rows tell these items, in whatever order
@@ -75,6 +76,7 @@ tells_with_more n m le (IndexTold t i) row (inr is) = inr (record {
   row_is = row_with_more n m le (codes "index") i.name t.name i.root None row is.row_is;
 })
 tells_with_more n m le (ViewTold v) row is = is
+tells_with_more n m le (TriggerTold t) row is = is
 
 each_tells : (P Q : Told → Entry → Type 0) → ((item : Told) (row : Entry) → P item row → Q item row) → (items : List Told) (rows : List Entry) → Pairwise P items rows → Pairwise Q items rows
 each_tells P Q so [] [] each = tt
@@ -138,12 +140,14 @@ abbrev pub rowid_told : Told → ℤ
 rowid_told (TableTold t) = t.rowid
 rowid_told (IndexTold t i) = i.rowid
 rowid_told (ViewTold v) = v.rowid
+rowid_told (TriggerTold t) = t.rowid
 
 pub at_rowid : (pages : ℕ) (item : Told) (row : Entry) → Tells pages item row → row.rowid ≡ rowid_told item
 at_rowid pages (TableTold t) row tells = tells.rowid_is
 at_rowid pages (IndexTold t i) row (inl tells) = tells.rowid_is
 at_rowid pages (IndexTold t i) row (inr tells) = tells.rowid_is
 at_rowid pages (ViewTold v) row tells = tells.rowid_is
+at_rowid pages (TriggerTold t) row tells = tells.rowid_is
 
 -- the row of an item is there, and without it the others are told
 pub record IsLess (pages : ℕ) (items : List Told) (rowid : ℤ) (rows : List Entry) : Type 0 where
@@ -173,13 +177,14 @@ one_less pages c d item rows tell distinct =
 pub record AreLess (pages : ℕ) (items : List Told) (rowids : List ℤ) (rows : List Entry) : Type 0 where
   pub there : AreThere rowids rows
   pub tell : AreToldBy pages items (without_rows rowids rows)
+  pub distinct : AreDistinct (without_rows rowids rows)
 
 pub many_less : (pages : ℕ) (c xs d : List Told) (rows : List Entry) → AreToldBy pages (c ++ (xs ++ d)) rows → AreDistinct rows → AreLess pages (c ++ d) (map rowid_told xs) rows
-many_less pages c [] d rows tell distinct = record { there = tt; tell = tell }
+many_less pages c [] d rows tell distinct = record { there = tt; tell = tell; distinct = distinct }
 many_less pages c (x ∷ xs) d rows tell distinct =
     let one = one_less pages c (xs ++ d) x rows tell distinct in
     let rest = many_less pages c xs d (without_row (rowid_told x) rows) one.tell one.distinct in
-    record { there = (one.there, rest.there); tell = rest.tell }
+    record { there = (one.there, rest.there); tell = rest.tell; distinct = rest.distinct }
 
 -- ---- rowids
 
@@ -205,10 +210,23 @@ view_rowids : (views : List View) → map rowid_told (map ViewTold views) ≡ ma
 view_rowids [] = refl
 view_rowids (v ∷ vs) = ap (λ zs. v.rowid ∷ zs) (view_rowids vs)
 
+trigger_rowids : (triggers : List Trigger) → map rowid_told (map TriggerTold triggers) ≡ map (λ (t : Trigger). t.rowid) triggers
+trigger_rowids [] = refl
+trigger_rowids (t ∷ ts) = ap (λ zs. t.rowid ∷ zs) (trigger_rowids ts)
+
+-- what is told of the views, then of the triggers
+abbrev pub treeless_told : Listed → List Told
+treeless_told l = map ViewTold l.views ++ map TriggerTold l.triggers
+
+treeless_rowids : (l : Listed) → map rowid_told (treeless_told l) ≡ map (λ (v : View). v.rowid) l.views ++ map (λ (t : Trigger). t.rowid) l.triggers
+treeless_rowids l =
+    map_both rowid_told (map ViewTold l.views) (map TriggerTold l.triggers)
+    ∙ (ap (λ zs. zs ++ map rowid_told (map TriggerTold l.triggers)) (view_rowids l.views) ∙ ap (λ zs. map (λ (v : View). v.rowid) l.views ++ zs) (trigger_rowids l.triggers))
+
 all_rowids : (l : Listed) → map rowid_told (all_told l) ≡ rowids_of l
 all_rowids l =
-    map_both rowid_told (tables_told l.tables) (map ViewTold l.views)
-    ∙ (ap (λ zs. zs ++ map rowid_told (map ViewTold l.views)) (table_rowids l.tables) ∙ ap (λ zs. flat_map rowids_in l.tables ++ zs) (view_rowids l.views))
+    map_both rowid_told (tables_told l.tables) (treeless_told l)
+    ∙ (ap (λ zs. zs ++ map rowid_told (treeless_told l)) (table_rowids l.tables) ∙ ap (λ zs. flat_map rowids_in l.tables ++ zs) (treeless_rowids l))
 
 -- a rowid that none of the items has
 not_among : (rowid : ℤ) (items : List Told) → is_among rowid (map rowid_told items) ≡ false → AllByRecursion (λ item. int_eq (rowid_told item) rowid ≡ false) items
@@ -238,6 +256,7 @@ abbrev IsOnce : Told → Type 0
 IsOnce (TableTold t) = is_twice_named t.columns ≡ false
 IsOnce (IndexTold t i) = ⊤
 IsOnce (ViewTold v) = ⊤
+IsOnce (TriggerTold t) = ⊤
 
 own_name : (t : Table) → is_table t.name t ≡ true
 own_name t = same_bytes (folded t.name)
@@ -251,12 +270,13 @@ told_once pages (item ∷ items) [] each = absurd each
 told_once pages (TableTold t ∷ items) (row ∷ rows) each = (once_alone each.0.definition t each.0.makes.once each.0.makes.columns, told_once pages items rows each.1)
 told_once pages (IndexTold t i ∷ items) (row ∷ rows) each = (tt, told_once pages items rows each.1)
 told_once pages (ViewTold v ∷ items) (row ∷ rows) each = (tt, told_once pages items rows each.1)
+told_once pages (TriggerTold t ∷ items) (row ∷ rows) each = (tt, told_once pages items rows each.1)
 
 pub all_after : {A : Type 0} (P : A → Type 0) (xs ys : List A) → AllByRecursion P (xs ++ ys) → AllByRecursion P ys
 all_after P [] ys all = all
 all_after P (x ∷ xs) ys all = all_after P xs ys all.1
 
-all_before : {A : Type 0} (P : A → Type 0) (xs ys : List A) → AllByRecursion P (xs ++ ys) → AllByRecursion P xs
+pub all_before : {A : Type 0} (P : A → Type 0) (xs ys : List A) → AllByRecursion P (xs ++ ys) → AllByRecursion P xs
 all_before P [] ys all = tt
 all_before P (x ∷ xs) ys all = (all.0, all_before P xs ys all.1)
 
@@ -268,7 +288,7 @@ tables_once (t ∷ ts) all = (all.0, tables_once ts (all_after IsOnce (told_by t
 pub once_told : (pages : ℕ) (l : Listed) (rows : List Entry) → AreRowsOf pages l rows → AreOnce l.tables
 once_told pages l rows tell name t named =
     let a = found_among (is_table name) l.tables t named in
-    let all : AllByRecursion (λ (t : Table). is_twice_named t.columns ≡ false) l.tables = tables_once l.tables (all_before IsOnce (tables_told l.tables) (map ViewTold l.views) (all_reordered IsOnce tell.told (all_told l) tell.all (told_once pages tell.told rows tell.each))) in
+    let all : AllByRecursion (λ (t : Table). is_twice_named t.columns ≡ false) l.tables = tables_once l.tables (all_before IsOnce (tables_told l.tables) (treeless_told l) (all_reordered IsOnce tell.told (all_told l) tell.all (told_once pages tell.told rows tell.each))) in
     one_of (λ (t : Table). is_twice_named t.columns ≡ false) a.front t a.back (subst (AllByRecursion (λ (t : Table). is_twice_named t.columns ≡ false)) a.parts all)
 
 -- ---- other items in place of some
@@ -338,16 +358,15 @@ pub told_append : (xs ys : List Table) → tables_told (xs ++ ys) ≡ tables_tol
 told_append [] ys = refl
 told_append (x ∷ xs) ys = ap (λ zs. told_by x ++ zs) (told_append xs ys) ∙ sym (append_assoc (told_by x) (tables_told xs) (tables_told ys))
 
--- what stands after what these tables tell, where those come next, and then views
-abbrev pub told_after : List Table → List View → List Told
-told_after back views = tables_told back ++ map ViewTold views
+-- what stands after what these tables tell, where those come next, and then views and triggers
+abbrev pub told_after : List Table → Listed → List Told
+told_after back l = tables_told back ++ treeless_told l
 
-pub told_joined : (front back : List Table) (views : List View) → all_told (record { tables = front ++ back; views = views }) ≡ tables_told front ++ told_after back views
-told_joined front back views = ap (λ zs. zs ++ map ViewTold views) (told_append front back) ∙ append_assoc (tables_told front) (tables_told back) (map ViewTold views)
+pub told_joined : (front back : List Table) (l : Listed) → all_told (record l { tables = front ++ back }) ≡ tables_told front ++ told_after back l
+told_joined front back l = ap (λ zs. zs ++ treeless_told l) (told_append front back) ∙ append_assoc (tables_told front) (tables_told back) (treeless_told l)
 
-pub told_around : (front : List Table) (t : Table) (back : List Table) (views : List View)
-    → all_told (record { tables = front ++ t ∷ back; views = views }) ≡ tables_told front ++ (told_by t ++ told_after back views)
-told_around front t back views = told_joined front (t ∷ back) views ∙ ap (λ zs. tables_told front ++ zs) (append_assoc (told_by t) (tables_told back) (map ViewTold views))
+pub told_around : (front : List Table) (t : Table) (back : List Table) (l : Listed) → all_told (record l { tables = front ++ t ∷ back }) ≡ tables_told front ++ (told_by t ++ told_after back l)
+told_around front t back l = told_joined front (t ∷ back) l ∙ ap (λ zs. tables_told front ++ zs) (append_assoc (told_by t) (tables_told back) (treeless_told l))
 
 pub map_append : {A B : Type 0} (f : A → B) (xs ys : List A) → map f (xs ++ ys) ≡ map f xs ++ map f ys
 map_append f xs ys = map_both f xs ys

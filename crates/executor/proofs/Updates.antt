@@ -14,7 +14,7 @@ use Rattle.sql_syntax.specs.declared.statement.Statement.TheVariants as statemen
 use Rattle.pages.specs.Map.{PageMap}
 use Rattle.db_layout.specs.Trees.{AreAmong}
 use Rattle.catalog.specs.Database.{ATable, Database, Name, with_object}
-use Rattle.catalog.specs.Laws.{KeepsNoTrigger, ListsOtherRows}
+use Rattle.catalog.specs.Laws.{ListsOtherRows}
 use Rattle.catalog.specs.Listed.{Lists, is_table, table_named, with_rows, Listed}
 use Rattle.catalog.specs.Named.{IsOfListed, KeepsNamed, ListsIndexes}
 use Rattle.catalog.specs.declared.tables.Column.{Column}
@@ -37,7 +37,7 @@ use Rattle.query_names.proofs.ColumnPlaces.{column_place}
 use Rattle.row_change.proofs.PlacesByName.{doubled_list, list_places, unknown_list}
 use Rattle.trigger.specs.Binding.{IsFault}
 use Rattle.trigger.specs.Effects.{change}
-use Rattle.trigger.specs.Laws.{BindsAlone, UpdateSetsRows}
+use Rattle.trigger.specs.Laws.{BindsAlone, SetsOffNothing, UpdateSetsRows}
 use Rattle.executor.specs.Changing.{IsChangeRefusal, IsMade}
 use Rattle.db_pages.specs.Stored.{Stores, all_trees, schema_tree}
 use Rattle.executor.specs.Works.{Reaches, RefusesWith, change_made, of_answer}
@@ -56,7 +56,6 @@ use Rattle.executor.specs.Refusing.{is_view_named}
 -- what follows for every listed database, and for the trees of its file
 pub record Laws : Type 0 where
   pub lists : ListsOtherRows
-  pub quiet : KeepsNoTrigger
   pub named : KeepsNamed
   pub binds : BindsAlone
   pub updates : UpdateSetsRows
@@ -113,12 +112,12 @@ first_fault r (Meant x rs) = (0, omega arith, refl)
 no_faults : (k : Checked Resolved) → also [] k ≡ k
 no_faults (Meant x rs) = refl
 
-module _ (laws : Laws) (pages : PageMap) (size : ℕ) (l : Listed) (db : Database) (held : Stores pages size l db) (u : Update) (plain : is_view_named l u.table ≡ false) where
+module _ (laws : Laws) (pages : PageMap) (size : ℕ) (l : Listed) (db : Database) (held : Stores pages size l db) (u : Update) (still : SetsOffNothing db (kind.Update u)) (plain : is_view_named l u.table ≡ false) where
   resolved : (found : Option Table) → table_named u.table l.tables ≡ found → resolve_change db no_outer (kind.Update u) ≡ resolved_by u (looked_up found)
   resolved found named = ap (resolved_by u) (known_as held.rows_at l db held.of_listed.lists u.table plain ∙ ap looked_up named)
 
   refused_so : (f : Fault) → Contains (faults (resolve_change db no_outer (kind.Update u))) (refusal_of f) → IsChangeRefusal (updating u) db f
-  refused_so f has = inr (inl (inl ((laws.binds db (kind.Update u) (refusal_of f) held.of_listed.quiet).1 has)))
+  refused_so f has = inr (inl (inl ((laws.binds db (kind.Update u) (refusal_of f) still).1 has)))
 
   -- a name that no table has
   pub name_refused : (f : Fault) → (f ≡ fault.Memory) ⊎ (refusal_of f ≡ NoSuch) × (table_named u.table l.tables ≡ None) → IsChangeRefusal (updating u) db f
@@ -186,7 +185,7 @@ module _ (laws : Laws) (pages : PageMap) (size : ℕ) (l : Listed) (db : Databas
       owned = held_table pages size l db held u.table t named
 
       not_refused : (r : Refusal) → IsFault db (kind.Update u) r → ⊥
-      not_refused r is = nothing (subst (λ (k : Checked Resolved). Contains (faults k) r) bound ((laws.binds db (kind.Update u) r held.of_listed.quiet).0 is))
+      not_refused r is = nothing (subst (λ (k : Checked Resolved). Contains (faults k) r) bound ((laws.binds db (kind.Update u) r still).0 is))
         where
           nothing : Contains [] r → ⊥
           nothing has = absurd (omega (arith, has.1))
@@ -209,7 +208,6 @@ module _ (laws : Laws) (pages : PageMap) (size : ℕ) (l : Listed) (db : Databas
       of_listed : (now : List TableRow) → IsOfListed (rows_with held.rows_at t.root now) l (with_now now)
       of_listed now = record {
         lists = lists_now now;
-        quiet = laws.quiet db (folded u.table) (ATable (with_rows t now)) held.of_listed.quiet refl;
         named = laws.named db (folded u.table) (ATable (with_rows t now)) held.of_listed.named;
         once = held.of_listed.once;
       }
@@ -222,7 +220,7 @@ module _ (laws : Laws) (pages : PageMap) (size : ℕ) (l : Listed) (db : Databas
 
       change_is : (a : Answer (List TableRow)) → rows_set t sets condition (held.rows_at t.root) ≡ a → change db (kind.Update u) ≡ (a then λ now. Ok (with_now now))
       change_is a e =
-          laws.updates db u t (held.rows_at t.root) sets (named_sets u) condition held.of_listed.quiet held.of_listed.named (indexes_of_table laws.indexes held.rows_at l db u.table t held.of_listed named) (listed_table held.rows_at l db u.table t held.of_listed.lists named) owned.split.is.fit bound
+          laws.updates db u t (held.rows_at t.root) sets (named_sets u) condition still held.of_listed.named (indexes_of_table laws.indexes held.rows_at l db u.table t held.of_listed named) (listed_table held.rows_at l db u.table t held.of_listed.lists named) owned.split.is.fit bound
           ∙ ap (λ (x : Answer (List TableRow)). x then λ now. Ok (with_now now)) e
 
       -- what the call that sets the rows comes to
@@ -242,4 +240,4 @@ module _ (laws : Laws) (pages : PageMap) (size : ℕ) (l : Listed) (db : Databas
           by (inl outside) = inl outside
           by (inr (inl e)) = refuses f (change_is (Err (refusal_of f)) e)
           by (inr (inr (what, wide))) =
-              inr (inr (record { is = what; why = inl (wide_in db t u.table (same_folded t.name u.table (found_is (is_table u.table) l.tables t named)) (indexes_listed held.rows_at l db held.of_listed owned.front t owned.back owned.tables_are) wide) }))
+              inr (inr (inl (record { is = what; why = inl (wide_in db t u.table (same_folded t.name u.table (found_is (is_table u.table) l.tables t named)) (indexes_listed held.rows_at l db held.of_listed owned.front t owned.back owned.tables_are) wide) })))

@@ -1,5 +1,5 @@
 -- What a CREATE VIEW comes to on the database that pages hold.
-use Rattle.std.proofs.Common.{◌≡◌, ◌⊎◌, ◌≤◌, inl, inr, refl, sym, ap, subst, ◌∙◌, ℕ, ℤ, Bool, true, false, codes, map, List, [], ◌∷◌, ◌++◌, append-nil, append_assoc, length, Option, None, Some, Result, Ok, Err, arith}
+use Rattle.std.proofs.Common.{◌≡◌, ◌⊎◌, ◌≤◌, inl, inr, refl, sym, ap, subst, ◌∙◌, ℕ, ℤ, Bool, true, false, codes, map, List, [], ◌∷◌, ◌++◌, append_assoc, length, Option, None, Some, Result, Ok, Err, arith}
 use Rattle.std.proofs.lemmas.Bool.{false≢true}
 use Rattle.std.specs.Prelude.{Contains, is_some}
 use Rattle.std.specs.List.{AllByRecursion}
@@ -26,7 +26,7 @@ use Rattle.catalog.specs.declared.tables.View.{View}
 use Rattle.query_names.specs.Checked.{Checked, faults, good, known_map, unless}
 use Rattle.query_names.specs.Schema.{create_view}
 use Rattle.query_names.specs.Scopes.{is_doubled}
-use Rattle.db_pages.specs.Schema.{AreRowsOf, CreatesSupported, IsCreateOf, IsViewRow, Told, ViewTold, all_told, schema_row, tables_told}
+use Rattle.db_pages.specs.Schema.{AreRowsOf, IsCreateOf, IsViewRow, Told, TriggerTold, ViewTold, all_told, schema_row, tables_told}
 use Rattle.db_pages.specs.Stored.{Stores}
 use Rattle.executor.specs.Changing.{IsChangeRefusal, IsMade}
 use Rattle.executor.specs.Holding.{HoldsTrees}
@@ -34,6 +34,7 @@ use Rattle.executor.specs.Listing.{AddsRow, AreTooLong, IsAdded, IsNewView, IsVi
 use Rattle.executor.specs.Works.{Reaches, RefusesWith, change_made, of_known}
 use Rattle.executor.proofs.Creations.{refused_work}
 use Rattle.executor.proofs.HeldTrees.{schema_stands, stores_of, trees_held, with_schema}
+use Rattle.executor.proofs.Targets.{fit_with_view}
 use Rattle.executor.proofs.Telling.{AreToldBy, as_rows, as_told, free_at, map_append, more_pages, one_more, told_as}
 
 -- what follows for every listed database, and for the trees of its file
@@ -113,9 +114,9 @@ module _ (laws : Laws) (old : PageMap) (size : ℕ) (l : Listed) (db : Database)
     -- its row isn't added
     pub refused_row : (f : Fault) → IsOutsideOrFull f ⊎ AreTooLong (schema_row (codes "view") d.name d.name 0 (Some sql)) f → IsChangeRefusal (creating sql d) db f
     refused_row f (inl full) = inl full
-    refused_row f (inr (what, long)) = inr (inr (record { is = what; why = inr (record { made = with_object db d.name seen; reaches = reached; long = long }) }))
+    refused_row f (inr (what, long)) = inr (inr (inl (record { is = what; why = inr (record { made = with_object db d.name seen; reaches = reached; long = long }) })))
 
-    module _ (creates : CreatesSupported sql (object.View d)) (new : PageMap) (rowid : ℤ) (unused : is_among rowid (rowids_of l) ≡ false)
+    module _ (creates : IsCreateOf sql (object.View d)) (new : PageMap) (rowid : ℤ) (unused : is_among rowid (rowids_of l) ≡ false)
         (added : IsAdded old new size (schema_row (codes "view") d.name d.name 0 (Some sql)) held.schema held.schema_used held.free rowid) where
       abbrev v : View
       v = record { definition = d; rowid = rowid }
@@ -134,15 +135,22 @@ module _ (laws : Laws) (old : PageMap) (size : ℕ) (l : Listed) (db : Database)
         row_is = added.is;
       }
 
-      all_are : all_told (with_view v l) ≡ all_told l ++ ViewTold v ∷ []
+      abbrev first : List Told
+      first = tables_told l.tables ++ map ViewTold l.views
+
+      abbrev last : List Told
+      last = map TriggerTold l.triggers
+
+      all_are : all_told (with_view v l) ≡ first ++ ViewTold v ∷ last
       all_are =
-          ap (λ (ts : List Told). tables_told l.tables ++ ts) (map_append ViewTold l.views (v ∷ []))
-          ∙ sym (append_assoc (tables_told l.tables) (map ViewTold l.views) (ViewTold v ∷ []))
+          ap (λ (ts : List Told). tables_told l.tables ++ (ts ++ last)) (map_append ViewTold l.views (v ∷ []))
+          ∙ (ap (λ (ts : List Told). tables_told l.tables ++ ts) (append_assoc (map ViewTold l.views) (ViewTold v ∷ []) last)
+          ∙ sym (append_assoc (tables_told l.tables) (map ViewTold l.views) (ViewTold v ∷ last)))
 
       told : AreRowsOf (length new) (with_view v l) (with_row added.entry held.schema)
-      told = as_rows (length new) (with_view v l) (all_told l ++ ViewTold v ∷ []) (with_row added.entry held.schema) all_are
-          (one_more (length new) (all_told l) [] (ViewTold v) added.entry held.schema
-          (told_as (length new) (all_told l) (all_told l ++ []) held.schema (sym (append-nil (all_told l)))
+      told = as_rows (length new) (with_view v l) (first ++ ViewTold v ∷ last) (with_row added.entry held.schema) all_are
+          (one_more (length new) first last (ViewTold v) added.entry held.schema
+          (told_as (length new) (all_told l) (first ++ last) held.schema (sym (append_assoc (tables_told l.tables) (map ViewTold l.views) last))
           (more_pages (length old) (length new) added.becomes.moves.longer (all_told l) held.schema (as_told (length old) l held.schema held.tell)))
           (subst (λ z. payload_at z held.schema ≡ None) (sym added.rowid_is) (none_at rowid unused)) new_row)
 
@@ -153,5 +161,5 @@ module _ (laws : Laws) (old : PageMap) (size : ℕ) (l : Listed) (db : Database)
         stored = subst (λ (x : Listed). Stores new size x (with_object db d.name seen)) (sym same)
             (stores_of new size held.rows_at (with_view v l) (with_row added.entry held.schema) (with_object db d.name seen)
             (with_schema old size held.rows_at l.tables held.schema trees laws.give_way new (with_row added.entry held.schema) added.becomes)
-            (laws.lists held.rows_at l db v held.of_listed is.new) told held.keys);
+            (laws.lists held.rows_at l db v held.of_listed is.new) told held.keys (fit_with_view l v held.targets));
       }

@@ -41,7 +41,7 @@ view_found finds rows_at l db name view found no_table named = as_listed (view_n
     the_view : (v w : ListedView) → Some v ≡ Some w → AView (as_view v) ≡ AView (as_view w)
     the_view v w e = cc
 
-    as_listed : (found : Option ListedView) → found ≡ Some view → MatchOption found (IsNoSource (object db name)) (λ v. object db name ≡ Some (AView (as_view v))) → object db name ≡ Some (AView (as_view view))
+    as_listed : (found : Option ListedView) → found ≡ Some view → MatchOption found (IsNoSource l name (object db name)) (λ v. object db name ≡ Some (AView (as_view v))) → object db name ≡ Some (AView (as_view view))
     as_listed None e h = absurd cc
     as_listed (Some v) e h = h ∙ ap (λ (o : Object). Some o) (the_view v view e)
 

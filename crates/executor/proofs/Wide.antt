@@ -15,7 +15,7 @@ use Rattle.row_scan.specs.Rows.{TableRow}
 use Rattle.row_change.specs.Agreement.{HasIndexesOf}
 use Rattle.db_write.specs.Changing.{has_wide_index, is_wide}
 use Rattle.executor.specs.Changing.{HasWideIndex, IsIndexIn}
-use Rattle.executor.proofs.HeldTrees.{named_as}
+use Rattle.executor.proofs.Targets.{named_as}
 
 either : (a b : Bool) → (a || b) ≡ true → (a ≡ false → b ≡ true)
 either true b h none = absurd cc

@@ -1,8 +1,8 @@
 -- What a statement's change makes of the pages that hold a database (SQL As Understood By SQLite, "CREATE TABLE", "CREATE INDEX", "INSERT").
-use Rattle.std.specs.Prelude.{◌≡◌, ◌⊎◌, codes, ℕ, true, List, length, Some, None, Result, MatchResult}
+use Rattle.std.specs.Prelude.{◌≡◌, ◌⊎◌, codes, ℕ, true, false, List, length, Some, None, Result, MatchResult}
 use Rattle.std.specs.List.{list_any}
 use Rattle.sqlval.specs.Names.{folded}
-use Rattle.sqlval.specs.Refusals.{refusal_of}
+use Rattle.sqlval.specs.Refusals.{Unsupported, refusal_of}
 use Rattle.sqlval.specs.declared.fault.Fault.{Fault}
 use Rattle.sqlval.specs.declared.fault.Fault.TheVariants as fault
 use Rattle.sql_syntax.specs.declared.change.Change.{Change}
@@ -21,6 +21,8 @@ use Rattle.catalog.specs.declared.tables.Index.{Index}
 use Rattle.catalog.specs.declared.tables.Table.{Table}
 use Rattle.query_names.specs.Schema.{automatic_name}
 use Rattle.query_names.specs.Tables.{keys_of}
+use Rattle.row_change.specs.RowChanges.{is_quiet}
+use Rattle.trigger.specs.Binding.{aim_of}
 use Rattle.db_write.specs.Changing.{is_wide}
 use Rattle.db_pages.specs.Schema.{schema_row}
 use Rattle.db_pages.specs.Stored.{Stores}
@@ -68,7 +70,7 @@ MakesLongText sql (new.Table d) = (root : ℕ) × ((AreStorable (schema_row (cod
 MakesLongText sql (new.Index d) =
     (table : Name) × (root : ℕ) × (folded table ≡ folded d.table) × (AreStorable (schema_row (codes "index") d.name table root (Some sql)) → ⊥)
 MakesLongText sql (new.View d) = AreStorable (schema_row (codes "view") d.name d.name 0 (Some sql)) → ⊥
-MakesLongText sql _ = ⊥
+MakesLongText sql (new.Trigger d) = AreStorable (schema_row (codes "trigger") d.name d.target 0 (Some sql)) → ⊥
 
 -- no record can hold a row of the schema table for what the statement creates
 abbrev pub HasLongText : Statement → Type 0
@@ -86,9 +88,21 @@ pub record IsTooMuch (s : Statement) (db : Database) (f : Fault) : Type 0 where
   pub is : f ≡ fault.TooLong
   pub why : MeetsWideIndex s db ⊎ MakesLongRow s db
 
--- Why a statement makes nothing: out of memory or of pages, by a disk, as its work is refused, or because something is too long for a record.
+-- the change could set a trigger off, which none does so far
+pub record SetsOff (s : Statement) (db : Database) (f : Fault) : Type 0 where
+  pub is : refusal_of f ≡ Unsupported
+  pub change : Change
+  pub change_is : s ≡ statement.Change change
+  pub some : is_quiet (aim_of change).event db (aim_of change).target ≡ false
+
+-- it can't be done by this engine
+abbrev pub IsBeyond : Statement → Database → Fault → Type 0
+IsBeyond s db f = IsTooMuch s db f ⊎ SetsOff s db f
+
+-- Why a statement makes nothing: out of memory or of pages, by a disk, as its work is refused, or because something is too long for a record
+-- or a trigger would be set off.
 abbrev pub IsChangeRefusal : Statement → Database → Fault → Type 0
-IsChangeRefusal s db f = IsOutsideOrFull f ⊎ (RefusesWith (change_made s db) (refusal_of f) ⊎ IsTooMuch s db f)
+IsChangeRefusal s db f = IsOutsideOrFull f ⊎ (RefusesWith (change_made s db) (refusal_of f) ⊎ IsBeyond s db f)
 
 -- What a statement's change comes to, where the pages hold a database of which this is listed. `listed_by` says what is listed after a call
 -- that answered.

@@ -1,5 +1,5 @@
 -- Rows that are added to the schema table, and taken out of it (Database File Format, "Storage Of The SQL Database Schema").
-use Rattle.std.specs.Prelude.{◌≡◌, ◌⊎◌, ⊤, true, false, ℕ, ℤ, List, [], ◌∷◌, None, Result, MatchResult}
+use Rattle.std.specs.Prelude.{◌≡◌, ◌⊎◌, ⊤, true, false, ℕ, ℤ, List, [], ◌∷◌, filter, map, None, Result, MatchResult}
 use Rattle.sqlval.specs.Refusals.{Exists, Misuse, Refusal}
 use Rattle.sqlval.specs.declared.fault.Fault.{Fault}
 use Rattle.sqlval.specs.declared.fault.Fault.TheVariants as fault
@@ -11,8 +11,10 @@ use Rattle.pages.specs.Calls.{IsOutsideOrFull}
 use Rattle.pages.specs.Map.{PageMap}
 use Rattle.sql_syntax.specs.declared.create.TableDefinition.{TableDefinition}
 use Rattle.sql_syntax.specs.declared.create.ViewDefinition.{ViewDefinition}
-use Rattle.catalog.specs.Listed.{Listed, is_name_of, is_reserved, names_listed}
+use Rattle.catalog.specs.Database.{Name}
+use Rattle.catalog.specs.Listed.{Listed, is_name_of, is_on, is_reserved, names_listed}
 use Rattle.catalog.specs.declared.tables.Table.{Table}
+use Rattle.catalog.specs.declared.tables.Trigger.{Trigger}
 use Rattle.db_pages.specs.Schema.{IsTableOf}
 use Rattle.tree_table.specs.Calls.{BecomesRows, Stands}
 use Rattle.tree_table.specs.Rows.{payload_at, with_row, without_row}
@@ -56,6 +58,10 @@ abbrev pub TakesSchemaRow : PageMap → PageMap → ℕ → ℤ → Result ⊤ F
 TakesSchemaRow old new size rowid result = (rows : List Entry) (used free : List ℕ) → Stands old size 1 rows used free
     → (payload_at rowid rows ≡ None → ⊥)
     → MatchResult result (λ done. BecomesRows old new size 1 (without_row rowid rows) used free) IsOutsideOrFull
+
+-- the rowids of the rows of the triggers of a table or view
+abbrev pub rowids_on : Name → List Trigger → List ℤ
+rowids_on name triggers = map (λ t. t.rowid) (filter (is_on name) triggers)
 
 -- nothing is in the way of a view: its name may be given, nothing that is listed has it, and its text lists no name twice
 pub record IsNewView (l : Listed) (d : ViewDefinition) : Type 0 where

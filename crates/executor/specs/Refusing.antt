@@ -1,5 +1,8 @@
--- Changes of views, whose names are looked up before they are refused (SQL As Understood By SQLite, "CREATE VIEW").
-use Rattle.std.specs.Prelude.{◌≡◌, ⊤, ◌&&◌, ℕ, ℤ, Bool, List, [], Option, Some, Result, MatchResult, is_none, is_some}
+-- Changes that are refused: those that a trigger waits for, and those of views, whose names are looked up before (SQL As Understood By SQLite,
+-- "CREATE TRIGGER", "CREATE VIEW").
+use Rattle.std.specs.Prelude.{◌≡◌, ⊤, true, false, ◌&&◌, ℕ, ℤ, Bool, List, [], Option, Some, Result, MatchResult, is_none, is_some}
+use Rattle.sqlval.specs.Names.{folded}
+use Rattle.sqlval.specs.Refusals.{Unsupported, refusal_of}
 use Rattle.sqlval.specs.declared.fault.Fault.{Fault}
 use Rattle.sqlval.specs.declared.value.Value.{Value}
 use Rattle.sql_syntax.specs.declared.change.Change.{Change}
@@ -9,6 +12,7 @@ use Rattle.catalog.specs.Listed.{Listed, Lists, table_named, view_named}
 use Rattle.query_names.specs.Bound.{IsFaultOf}
 use Rattle.query_names.specs.Checked.{Checked, faults}
 use Rattle.query_names.specs.declared.scope.ScopeSource.{ScopeSource}
+use Rattle.row_change.specs.RowChanges.{Event, is_quiet}
 use Rattle.row_change.specs.Changes.{insert_places, no_outer, resolve_change, resolve_given, wanted}
 
 -- the name is that of a listed view
@@ -30,3 +34,7 @@ KnowsGiven db count source result = IsKnownOr (resolve_given db no_outer (Some c
 -- those of an INSERT's list of columns; and how many values each row is to have
 abbrev pub KnowsPlaces : ScopeSource → Option (List Name) → Result ℕ Fault → Type 0
 KnowsPlaces source columns result = MatchResult result (λ count. (faults (insert_places source columns) ≡ []) × (wanted source columns ≡ Some count)) (IsFaultOf (faults (insert_places source columns)))
+
+-- an event at the table or view of this name sets no trigger off; or it does, and is refused
+abbrev pub StaysStill : Event → Database → Name → Result ⊤ Fault → Type 0
+StaysStill event db name result = MatchResult result (λ done. is_quiet event db (folded name) ≡ true) (λ f. (refusal_of f ≡ Unsupported) × (is_quiet event db (folded name) ≡ false))

@@ -1,7 +1,7 @@
 -- What statements come to on a database: a query's rows, and what a change makes of it (SQL As Understood By SQLite, "SELECT",
 -- "CREATE TABLE", "INSERT").
 use Rattle.std.specs.Prelude.{◌≡◌, ◌⊎◌, ℕ, Bool, false, Option, Some, List, [], ◌∷◌, Ok, Err, Contains, if◌then◌else◌}
-use Rattle.sqlval.specs.Refusals.{Answer, Refusal, Unique, Raised, RaisedRollback}
+use Rattle.sqlval.specs.Refusals.{Answer, Refusal, Unique}
 use Rattle.sqlval.specs.declared.value.Value.{Value}
 use Rattle.sql_syntax.specs.declared.change.Change.{Change}
 use Rattle.sql_syntax.specs.declared.change.InsertSource.{InsertSource}
@@ -36,13 +36,11 @@ given_on db n source = known_map (given_rows db no_outer) (resolve_given db no_o
 pub data Work : Type 0 where
   Makes : Database → Work
   IsRefused : List Refusal → Work
-  Undoes : Refusal → Work
   -- this, where binding isn't refused
   Binds : Database → Change → Work → Work
 
 abbrev pub of_answer : Answer Database → Work
 of_answer (Ok db) = Makes db
-of_answer (Err (RaisedRollback t)) = Undoes (Raised t)
 of_answer (Err r) = IsRefused (r ∷ [])
 
 abbrev pub of_known : Checked Database → Work

@@ -11,13 +11,14 @@ use crate::creating::{create_index, create_table};
 use crate::deleting::delete_rows;
 use crate::dropping::drop_object;
 use crate::inserting::insert;
+use crate::triggers::create_trigger;
 use crate::updating::update_rows;
 use crate::views::create_view;
 use catalog::Catalog;
 use pages::WritePages;
 use sql_syntax::{
     Change, Create, Delete, IndexDefinition, Insert, NewObject, ObjectKind, Statement,
-    TableDefinition, Update, ViewDefinition,
+    TableDefinition, TriggerDefinition, Update, ViewDefinition,
 };
 use sqlval::{Name, R, Text};
 use std::alloc::Global;
@@ -31,6 +32,7 @@ pub enum Write<'a> {
     CreateTable(&'a Text, &'a TableDefinition),
     CreateIndex(&'a Text, &'a IndexDefinition),
     CreateView(&'a Text, &'a ViewDefinition),
+    CreateTrigger(&'a Text, &'a TriggerDefinition),
     Drop(ObjectKind, &'a Name),
 }
 
@@ -61,6 +63,12 @@ pub fn write_of(statement: &Statement) -> Option<Write<'_>>
                 object: NewObject::View(view),
             },
         ) => Some(Write::CreateView(sql, view)),
+        Statement::Create(
+            Create {
+                sql,
+                object: NewObject::Trigger(trigger),
+            },
+        ) => Some(Write::CreateTrigger(sql, trigger)),
         Statement::Drop(kind, name) => Some(Write::Drop(*kind, name)),
         _ => None,
     }
@@ -75,7 +83,7 @@ pub fn change<P: WritePages>(
     write: Write<'_>,
 ) -> R<Option<Catalog>>
     ensures made { IsTrue (P.Pages.tells (P.Pages.below pages.old))
-        → forms.WhereSupported (written write.entry)
+        → forms.WhereKept (written write.entry)
         (MakesChange (listed_then (listed_in catalog.now)) (written write.entry)
         (P.Pages.map pages.old) (P.Pages.map pages.new)
         (P.Pages.limits (P.Pages.below pages.old)).page (listed_in catalog.now) result) }
@@ -100,6 +108,7 @@ pub fn change<P: WritePages>(
         Write::CreateTable(sql, table) => create_table(alloc, pages, catalog, sql, table)?,
         Write::CreateIndex(sql, index) => create_index(alloc, pages, catalog, sql, index)?,
         Write::CreateView(sql, view) => create_view(alloc, pages, catalog, sql, view)?,
+        Write::CreateTrigger(sql, trigger) => create_trigger(alloc, pages, catalog, sql, trigger)?,
         Write::Drop(kind, name) => drop_object(alloc, pages, catalog, kind, name)?,
     };
     Ok(Some(next))

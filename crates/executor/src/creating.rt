@@ -16,7 +16,7 @@ ghost use Rattle.executor.specs.Listing.{AddsRow, IsNewTable};
 
 use catalog::{
     Catalog, Index, IndexColumn, Table, indexes_come_and_go, is_reserved, key_copy,
-    named_databases_are_one, new_tables_are_listed, other_rows_are_listed, with_index,
+    named_databases_are_one, new_tables_are_listed, with_index,
 };
 use db_layout::{table_trees_stand, trees_give_way};
 use db_write::add_index;
@@ -110,6 +110,28 @@ pub(crate) fn add_row<P: WritePages>(
         return Err(Fault::Damaged(Damage::Order, SCHEMA));
     }
     Ok(())
+}
+
+/// Adds the row of what has no tree to the schema table: of this kind, under this name and that of what it is on, with its text. (What
+/// `add_row` refuses.)
+pub(crate) fn add_treeless_row<P: WritePages>(
+    alloc: Global,
+    pages: &mut P,
+    rowid: i64,
+    kind: &str,
+    name: &Name,
+    on: &Name,
+    sql: &Text,
+) -> R<()>
+    ensures added { IsTrue (P.Pages.tells (P.Pages.below pages.old))
+        → AddsRow (P.Pages.map pages.old) (P.Pages.map pages.new)
+        (P.Pages.limits (P.Pages.below pages.old)).page rowid (schema_row kind.now name.now on.now 0 (Some sql.now)) result }
+    ensures kept { P.Pages.below pages.new ≡ P.Pages.below pages.old }
+    ensures causes { Causes result (P.Pages.failures pages.old) (P.Pages.failures pages.new)
+        (P.Pages.count pages.new ≡ (P.Pages.limits (P.Pages.below pages.new)).most) }
+{
+    let values = schema_values(alloc, kind, name, on, 0, Some(sql))?;
+    add_row(alloc, pages, rowid, &values)
 }
 
 /// Lists an index with its table: its row in the schema table, of this name and text, and a tree with the entries of the table's rows. Answers the
@@ -221,7 +243,6 @@ pub fn create_table<P: WritePages>(
         (P.Pages.count pages.new ≡ (P.Pages.limits (P.Pages.below pages.new)).most) }
 {
     new_tables_are_listed();
-    other_rows_are_listed();
     named_databases_are_one();
     trees_give_way();
     table_trees_stand();

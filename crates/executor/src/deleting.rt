@@ -10,14 +10,14 @@ ghost use Rattle.sql_syntax.specs.declared.statement.Statement.TheVariants as st
 ghost use Rattle.catalog.specs.Listed.{listed_in, table_named, tables_of};
 ghost use Rattle.executor.specs.Changing.{MakesChange};
 
-use crate::refusing::{is_view, refuse_delete};
+use crate::refusing::{expect_still, is_view, refuse_delete};
 use catalog::{Catalog, Table, named_databases_are_one, other_rows_are_listed};
 use pages::WritePages;
 use query_bind::bind_where;
 use sql_syntax::Delete;
 use sqlval::{Fault, Name, Object, R};
 use std::alloc::Global;
-use trigger::only_tables_set_nothing_off;
+use trigger::{RowEvent, only_tables_set_nothing_off};
 
 /// The table of a name. (`NoSuch` if none has it.)
 pub(crate) fn listed_table<'a>(alloc: Global, catalog: &'a Catalog, name: &Name) -> R<&'a Table>
@@ -52,6 +52,7 @@ pub fn delete_rows<P: WritePages>(
     other_rows_are_listed();
     named_databases_are_one();
     only_tables_set_nothing_off();
+    expect_still(catalog, &delete.table, RowEvent::Delete)?;
     if is_view(catalog, &delete.table) {
         return Err(refuse_delete(alloc, catalog, delete));
     }

@@ -1,6 +1,6 @@
 //! DROP.
 
-ghost use Rattle.std.specs.Prelude.{◌≡◌, ◌⊎◌, false, map, option_map, None, Some, IfErr, IfOk, IsTrue};
+ghost use Rattle.std.specs.Prelude.{◌≡◌, ◌⊎◌, ◌++◌, ◌∷◌, [], false, map, option_map, None, Some, IfErr, IfOk, IsTrue};
 ghost use Rattle.std.specs.List.{find};
 ghost use Rattle.sqlval.specs.Faults.{IsNotDiskFault};
 ghost use Rattle.sqlval.specs.Names.{is_same_name};
@@ -9,16 +9,17 @@ ghost use Rattle.sqlval.specs.Refusals.{refusal_of};
 ghost use Rattle.pages.specs.Calls.{Causes};
 ghost use Rattle.sql_syntax.specs.declared.statement.ObjectKind.TheVariants as kinds;
 ghost use Rattle.sql_syntax.specs.declared.statement.Statement.TheVariants as statement;
-ghost use Rattle.catalog.specs.Listed.{listed_in, rowids_in, table_with_index, tables_of};
+ghost use Rattle.catalog.specs.Listed.{listed_in, rowids_in, shared, table_with_index, tables_of, triggers_in};
 ghost use Rattle.executor.specs.Changing.{MakesChange};
-ghost use Rattle.executor.specs.Listing.{TakesSchemaRow, TakesSchemaRows};
+ghost use Rattle.executor.specs.Listing.{TakesSchemaRow, TakesSchemaRows, rowids_on};
 
 use crate::creating::SCHEMA;
 use crate::deleting::listed_table;
+use crate::triggers::drop_trigger;
 use crate::views::drop_view;
 use catalog::{
-    Catalog, Index, Table, indexes_come_and_go, listed_tables_are_found, other_tables_are_listed,
-    without_index,
+    Catalog, Index, Table, Trigger, indexes_come_and_go, listed_tables_are_found,
+    other_tables_are_listed, without_index,
 };
 use db_layout::{table_trees_stand, trees_give_way};
 use db_write::{drop_trees, free_index};
@@ -26,6 +27,7 @@ use pages::WritePages;
 use sql_syntax::ObjectKind;
 use sqlval::{Damage, Fault, Misuse, Name, Object, R};
 use std::alloc::Global;
+use std::rc::Rc;
 use tree_table::remove;
 
 /// Takes the row of a rowid out of the schema table. (What `remove` refuses; `Damaged(Schema, 1)` if there is none.)
@@ -75,6 +77,65 @@ fn take_rows<P: WritePages>(alloc: Global, pages: &mut P, table: &Table) -> R<()
     take_index_rows(alloc, pages, table.indexes.as_slice())
 }
 
+/// Takes the row of a trigger out of the schema table, if it is one of this table or view. (What `take_row` refuses.)
+fn take_if_on<P: WritePages>(alloc: Global, pages: &mut P, trigger: &Trigger, name: &Name) -> R<()>
+    ensures taken { IsTrue (P.Pages.tells (P.Pages.below pages.old))
+        → TakesSchemaRows (P.Pages.map pages.old) (P.Pages.map pages.new)
+        (P.Pages.limits (P.Pages.below pages.old)).page
+        (rowids_on name.now (trigger.now ∷ [])) result }
+    ensures kept { P.Pages.below pages.new ≡ P.Pages.below pages.old }
+    ensures causes { Causes result (P.Pages.failures pages.old) (P.Pages.failures pages.new)
+        (P.Pages.count pages.new ≡ (P.Pages.limits (P.Pages.below pages.new)).most) }
+{
+    if !name.is_same(trigger.definition.target.as_str()) {
+        return Ok(());
+    }
+    take_row(alloc, pages, trigger.rowid)
+}
+
+/// Takes the rows of the triggers of a table or view out of the schema table. (What `take_row` refuses.)
+pub(crate) fn take_trigger_rows<P: WritePages>(
+    alloc: Global,
+    pages: &mut P,
+    triggers: &[Rc<Trigger>],
+    name: &Name,
+) -> R<()>
+    ensures taken { IsTrue (P.Pages.tells (P.Pages.below pages.old))
+        → TakesSchemaRows (P.Pages.map pages.old) (P.Pages.map pages.new)
+        (P.Pages.limits (P.Pages.below pages.old)).page
+        (rowids_on name.now (shared triggers.now)) result }
+    ensures kept { P.Pages.below pages.new ≡ P.Pages.below pages.old }
+    ensures causes { Causes result (P.Pages.failures pages.old) (P.Pages.failures pages.new)
+        (P.Pages.count pages.new ≡ (P.Pages.limits (P.Pages.below pages.new)).most) }
+{
+    let mut left = triggers;
+    'triggers: while let [trigger, rest @ ..] = left {
+        take_if_on(alloc, pages, trigger, name)?;
+        left = rest;
+    }
+    Ok(())
+}
+
+/// Takes the rows of a table, of its indexes and of its triggers out of the schema table. (What `take_row` refuses.)
+fn take_all_rows<P: WritePages>(
+    alloc: Global,
+    pages: &mut P,
+    catalog: &Catalog,
+    table: &Table,
+    name: &Name,
+) -> R<()>
+    ensures taken { IsTrue (P.Pages.tells (P.Pages.below pages.old))
+        → TakesSchemaRows (P.Pages.map pages.old) (P.Pages.map pages.new)
+        (P.Pages.limits (P.Pages.below pages.old)).page
+        (rowids_in table.now ++ rowids_on name.now (triggers_in catalog.now)) result }
+    ensures kept { P.Pages.below pages.new ≡ P.Pages.below pages.old }
+    ensures causes { Causes result (P.Pages.failures pages.old) (P.Pages.failures pages.new)
+        (P.Pages.count pages.new ≡ (P.Pages.limits (P.Pages.below pages.new)).most) }
+{
+    take_rows(alloc, pages, table)?;
+    take_trigger_rows(alloc, pages, catalog.triggers(), name)
+}
+
 /// What an object of this kind is called in a refusal.
 fn object_of(kind: ObjectKind) -> Object {
     match kind {
@@ -96,8 +157,8 @@ pub(crate) fn no_such(alloc: Global, kind: ObjectKind, name: &Name) -> Fault
     }
 }
 
-/// Drops a table with its indexes: their rows in the schema table, and their trees. Answers the catalog without it. (`NoSuch`; what `take_rows`
-/// and `drop_trees` refuse. Then some pages may have changed.)
+/// Drops a table with its indexes and triggers: their rows in the schema table, and their trees. Answers the catalog without them. (`NoSuch`; what
+/// `take_all_rows` and `drop_trees` refuse. Then some pages may have changed.)
 fn drop_table<P: WritePages>(
     alloc: Global,
     pages: &mut P,
@@ -117,8 +178,8 @@ fn drop_table<P: WritePages>(
     trees_give_way();
     table_trees_stand();
     let table = listed_table(alloc, catalog, name)?;
-    let left = catalog.without(alloc, name.as_str())?;
-    take_rows(alloc, pages, table)?;
+    let left = catalog.without(alloc, name)?;
+    take_all_rows(alloc, pages, catalog, table, name)?;
     drop_trees(alloc, pages, table)?;
     Ok(left)
 }
@@ -207,8 +268,8 @@ fn drop_index<P: WritePages>(
     drop_listed_index(alloc, pages, catalog, table, index, name)
 }
 
-/// Drops an object, and answers the catalog without it. (`NoSuch`, also for each trigger, since there are none;
-/// `Misuse(Autoindex)`; what removing rows of the schema table and freeing trees refuse; then some pages may have changed.)
+/// Drops an object, and answers the catalog without it and what goes with it. (`NoSuch`; `Misuse(Autoindex)`; what removing rows of the schema
+/// table and freeing trees refuse; then some pages may have changed.)
 pub fn drop_object<P: WritePages>(
     alloc: Global,
     pages: &mut P,
@@ -223,11 +284,10 @@ pub fn drop_object<P: WritePages>(
     ensures causes { Causes result (P.Pages.failures pages.old) (P.Pages.failures pages.new)
         (P.Pages.count pages.new ≡ (P.Pages.limits (P.Pages.below pages.new)).most) }
 {
-    listed_tables_are_found();
     match kind {
         ObjectKind::Table => drop_table(alloc, pages, catalog, name),
         ObjectKind::Index => drop_index(alloc, pages, catalog, name),
         ObjectKind::View => drop_view(alloc, pages, catalog, name),
-        _ => Err(no_such(alloc, kind, name)),
+        ObjectKind::Trigger => drop_trigger(alloc, pages, catalog, name),
     }
 }

@@ -8,7 +8,7 @@ ghost use Rattle.catalog.specs.Listed.{listed_in, tables_of};
 ghost use Rattle.executor.specs.Changing.{MakesChange};
 
 use crate::giving::given_rows;
-use crate::refusing::{is_view, refuse_insert};
+use crate::refusing::{expect_still, is_view, refuse_insert};
 use catalog::{Catalog, listed_indexes_are_found, named_databases_are_one, other_rows_are_listed};
 use db_write::insert_rows;
 use pages::WritePages;
@@ -16,7 +16,7 @@ use query_names::{BoundInsert, bind_target};
 use sql_syntax::Insert;
 use sqlval::R;
 use std::alloc::Global;
-use trigger::only_tables_set_nothing_off;
+use trigger::{RowEvent, only_tables_set_nothing_off};
 
 /// Makes the rows of an INSERT: all are known before the first is stored. (What `refuse_insert` says, of a view; what `bind_target`, `given_rows` and `insert_rows` refuse;
 /// then some pages may have changed.)
@@ -38,6 +38,7 @@ pub fn insert<P: WritePages>(
     named_databases_are_one();
     listed_indexes_are_found();
     only_tables_set_nothing_off();
+    expect_still(catalog, &insert.table, RowEvent::Insert)?;
     if is_view(catalog, &insert.table) {
         return Err(refuse_insert(alloc, catalog, insert));
     }

@@ -7,8 +7,10 @@ mod deleting;
 mod dropping;
 mod giving;
 mod inserting;
+mod kept;
 mod reading;
 mod refusing;
+mod triggers;
 mod updating;
 mod views;
 
@@ -18,5 +20,6 @@ pub use deleting::delete_rows;
 pub use dropping::drop_object;
 pub use inserting::insert;
 pub use reading::read;
+pub use triggers::create_trigger;
 pub use updating::update_rows;
 pub use views::create_view;

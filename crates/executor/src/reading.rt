@@ -262,7 +262,7 @@ fn loaded_rows<P: Pages>(
     rows_are_loaded_beside_conditions();
     let origins = bound.origins.as_slice();
     let sources = load_sources(alloc, pages, catalog, room, &bound.reading, origins)?;
-    answer(alloc, &bound.reading, &sources)
+    answer(alloc, &bound.reading, 0, &sources)
 }
 
 /// The rows of a query whose names are looked up, where up to `room` views stand one within another. (What `streamed_source`, `streamed_rows`

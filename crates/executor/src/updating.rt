@@ -8,14 +8,14 @@ ghost use Rattle.catalog.specs.Listed.{listed_in, tables_of};
 ghost use Rattle.executor.specs.Changing.{MakesChange};
 
 use crate::deleting::listed_table;
-use crate::refusing::{is_view, refuse_update};
+use crate::refusing::{expect_still, is_view, refuse_update};
 use catalog::{Catalog, listed_indexes_are_found, named_databases_are_one, other_rows_are_listed};
 use pages::WritePages;
 use query_bind::{bind_sets, bind_where};
 use sql_syntax::Update;
 use sqlval::R;
 use std::alloc::Global;
-use trigger::{only_tables_set_nothing_off, update_sets_off_nothing};
+use trigger::{RowEvent, only_tables_set_nothing_off, update_sets_off_nothing};
 
 /// Sets values in the rows of a table for which WHERE is true, or in all without one. (`NoSuch` and what else binding an UPDATE refuses;
 /// what `update_rows` of `db_write` refuses; then some pages may have changed.)
@@ -38,11 +38,13 @@ pub fn update_rows<P: WritePages>(
     listed_indexes_are_found();
     only_tables_set_nothing_off();
     update_sets_off_nothing();
+    let assignments = update.assignments.as_slice();
+    expect_still(catalog, &update.table, RowEvent::Update(assignments))?;
     if is_view(catalog, &update.table) {
         return Err(refuse_update(alloc, catalog, update));
     }
     let table = listed_table(alloc, catalog, &update.table)?;
-    let sets = bind_sets(alloc, &update.table, table, update.assignments.as_slice())?;
+    let sets = bind_sets(alloc, &update.table, table, assignments)?;
     let condition = bind_where(alloc, &update.table, table, &update.condition)?;
     db_write::update_rows(alloc, pages, table, &condition, &sets)
 }

@@ -1,6 +1,6 @@
 //! CREATE VIEW and DROP VIEW.
 
-ghost use Rattle.std.specs.Prelude.{◌≡◌, ◌⊎◌, None, Ok, Some, option_map, IfErr, IfOk, IsTrue, OnOk, List, ℕ};
+ghost use Rattle.std.specs.Prelude.{◌≡◌, ◌⊎◌, ◌∷◌, None, Ok, Some, option_map, IfErr, IfOk, IsTrue, OnOk};
 ghost use Rattle.sqlval.specs.Faults.{IsNotDiskFault, IsOrMemory};
 ghost use Rattle.sqlval.specs.Refusals as refusal;
 ghost use Rattle.sqlval.specs.Refusals.{refusal_of};
@@ -9,20 +9,20 @@ ghost use Rattle.sql_syntax.specs.declared.create.NewObject.TheVariants as objec
 ghost use Rattle.sql_syntax.specs.declared.create.ViewDefinition.{ViewDefinition as Defined};
 ghost use Rattle.sql_syntax.specs.declared.statement.ObjectKind.TheVariants as kinds;
 ghost use Rattle.sql_syntax.specs.declared.statement.Statement.TheVariants as statement;
-ghost use Rattle.catalog.specs.Listed.{listed_in, names_listed, view_named, views_of};
+ghost use Rattle.catalog.specs.Listed.{listed_in, names_listed, triggers_in, view_named, views_of};
 ghost use Rattle.db_pages.specs.Schema.{IsCreateOf};
 ghost use Rattle.query_names.specs.Scopes.{is_doubled};
 ghost use Rattle.executor.specs.Changing.{MakesChange};
-ghost use Rattle.executor.specs.Listing.{IsNewView, IsViewRefusal};
+ghost use Rattle.executor.specs.Listing.{IsNewView, IsViewRefusal, TakesSchemaRows, rowids_on};
 
-use crate::creating::{add_row, schema_values};
-use crate::dropping::{no_such, take_row};
+use crate::creating::add_treeless_row;
+use crate::dropping::{no_such, take_row, take_trigger_rows};
+use crate::kept::kept_object;
 use catalog::{Catalog, View, is_reserved, listed_tables_are_found, views_come_and_go};
 use db_layout::{table_trees_stand, trees_give_way};
 use pages::WritePages;
 use query_names::has_doubled;
-use sql_parser::parse;
-use sql_syntax::{Create, NewObject, ObjectKind, Statement, ViewDefinition};
+use sql_syntax::{NewObject, ObjectKind, ViewDefinition};
 use sqlval::{Damage, Fault, Misuse, Name, R, Text};
 use std::alloc::Global;
 
@@ -70,27 +70,12 @@ fn defined_view(new: NewObject) -> R<ViewDefinition>
     }
 }
 
-/// The view that a statement creates. (`Damaged(Schema, 1)` if it creates none.)
-fn view_in(read: Statement) -> R<ViewDefinition>
-    ensures view { (sql : List ℕ) (d : Defined)
-        → read ≡ statement.Create (record { sql = sql; object = object.View d }) → result ≡ Ok d }
-    ensures not_disk { IfErr result (λ fault. IsNotDiskFault fault) }
-{
-    match read {
-        Statement::Create(Create { sql: _, object }) => defined_view(object),
-        other => {
-            drop(other);
-            Err(Fault::Damaged(Damage::Schema, 1))
-        }
-    }
-}
-
-/// The view that a text creates, read from it anew, since the catalog keeps it. (What `parse` and `view_in` refuse.)
+/// The view that a text creates, read from it anew. (What `kept_object` and `defined_view` refuse.)
 fn kept_view(alloc: Global, sql: &Text) -> R<ViewDefinition>
     ensures kept { (d : Defined) → IsCreateOf sql.now (object.View d) → IsOrMemory (λ view. view ≡ d) result }
     ensures not_disk { IfErr result (λ fault. IsNotDiskFault fault) }
 {
-    view_in(parse(alloc, sql.as_str())?)
+    defined_view(kept_object(alloc, sql)?)
 }
 
 /// Makes a view: its row in the schema table. Answers the catalog with it. Its query isn't looked at. (What `check_view` refuses; `TooLong`
@@ -122,9 +107,28 @@ pub fn create_view<P: WritePages>(
         rowid,
     };
     let name = &definition.name;
-    let values = schema_values(alloc, "view", name, name, 0, Some(sql))?;
-    add_row(alloc, pages, rowid, &values)?;
+    add_treeless_row(alloc, pages, rowid, "view", name, name, sql)?;
     catalog.with_view(alloc, view)
+}
+
+/// Takes the rows of a view and of its triggers out of the schema table. (What `take_row` refuses.)
+fn take_view_rows<P: WritePages>(
+    alloc: Global,
+    pages: &mut P,
+    catalog: &Catalog,
+    view: &View,
+    name: &Name,
+) -> R<()>
+    ensures taken { IsTrue (P.Pages.tells (P.Pages.below pages.old))
+        → TakesSchemaRows (P.Pages.map pages.old) (P.Pages.map pages.new)
+        (P.Pages.limits (P.Pages.below pages.old)).page
+        (view.now.rowid ∷ rowids_on name.now (triggers_in catalog.now)) result }
+    ensures kept { P.Pages.below pages.new ≡ P.Pages.below pages.old }
+    ensures causes { Causes result (P.Pages.failures pages.old) (P.Pages.failures pages.new)
+        (P.Pages.count pages.new ≡ (P.Pages.limits (P.Pages.below pages.new)).most) }
+{
+    take_row(alloc, pages, view.rowid)?;
+    take_trigger_rows(alloc, pages, catalog.triggers(), name)
 }
 
 /// The view of a name. (`NoSuch` if none has it.)
@@ -141,8 +145,8 @@ fn listed_view<'a>(alloc: Global, catalog: &'a Catalog, name: &Name) -> R<&'a Vi
     }
 }
 
-/// Drops a view: its row in the schema table. Answers the catalog without it. (`NoSuch`; what `take_row` refuses. Then some pages may have
-/// changed.)
+/// Drops a view with its triggers: their rows in the schema table. Answers the catalog without them. (`NoSuch`; what `take_view_rows` refuses.
+/// Then some pages may have changed.)
 pub(crate) fn drop_view<P: WritePages>(
     alloc: Global,
     pages: &mut P,
@@ -162,7 +166,7 @@ pub(crate) fn drop_view<P: WritePages>(
     trees_give_way();
     table_trees_stand();
     let view = listed_view(alloc, catalog, name)?;
-    let left = catalog.without_view(alloc, name.as_str())?;
-    take_row(alloc, pages, view.rowid)?;
+    let left = catalog.without_view(alloc, name)?;
+    take_view_rows(alloc, pages, catalog, view, name)?;
     Ok(left)
 }

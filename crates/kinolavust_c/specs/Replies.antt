@@ -41,7 +41,7 @@ abbrev pub refusal_subject : Fault → List ℕ
 refusal_subject (NoSuch kind name) = name
 refusal_subject (Exists name) = name
 refusal_subject (Ambiguous name) = name
-refusal_subject (Raised text) = text
+refusal_subject (Raised raised) = raised.text
 refusal_subject fault = []
 
 -- the bytes of a refusal: its place, what it speaks of, its number with its name, and its message

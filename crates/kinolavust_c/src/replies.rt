@@ -127,7 +127,7 @@ fn subject(fault: &Fault) -> &str
         Fault::NoSuch(_, name) => name.as_str(),
         Fault::Exists(name) => name.as_str(),
         Fault::Ambiguous(name) => name.as_str(),
-        Fault::Raised(text) => text.as_str(),
+        Fault::Raised(raised) => raised.text.as_str(),
         _ => "",
     }
 }

@@ -14,7 +14,7 @@ detail (Syntax at) = decimal at
 detail (NoSuch kind name) = name
 detail (Exists name) = name
 detail (Ambiguous name) = name
-detail (Raised text) = text
+detail (Raised raised) = raised.text
 detail fault = []
 
 -- a sentence and the refusal's detail were written after what stood there

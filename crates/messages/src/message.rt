@@ -29,7 +29,7 @@ fn put_detail(out: &mut Vec<u8>, fault: &Fault) -> Result<(), AllocError>
         Fault::NoSuch(_, name) => out.extend_from_slice(name.as_str().as_bytes()),
         Fault::Exists(name) => out.extend_from_slice(name.as_str().as_bytes()),
         Fault::Ambiguous(name) => out.extend_from_slice(name.as_str().as_bytes()),
-        Fault::Raised(text) => out.extend_from_slice(text.as_str().as_bytes()),
+        Fault::Raised(raised) => out.extend_from_slice(raised.text.as_str().as_bytes()),
         _ => Ok(()),
     }
 }

@@ -19,7 +19,6 @@ use Rattle.query_answer.specs.Sorting.{by_values, key_of, order_of}
 use Rattle.query_answer.specs.declared.results.FoundRow.{FoundRow}
 use Rattle.query_answer.specs.declared.sorting.SortOrder.{SortOrder}
 use Rattle.query_answer.proofs.AsDefined.{all_sorted, as_keys, each_itself, groups_as, sorted_as, sorted_seen}
-use Rattle.query_answer.proofs.Flows.{none_picked}
 use Rattle.query_terms.proofs.InOrder.{left, one_on}
 use Rattle.query_answer.proofs.KeyOrders.{by_keys}
 use Rattle.query_answer.proofs.Runs.{groups_seen, run_at}
@@ -30,10 +29,10 @@ rows_seen : (ss : List (List Row)) (rs : List FoundRow) → map (picked_rows ss)
 rows_seen ss [] = refl
 rows_seen ss (r ∷ rs) = ap (λ xs. picked_rows ss r.picked ∷ xs) (rows_seen ss rs)
 
-pub env_is : (ss : List (List Row)) (places : List (List ℕ)) (group : List FoundRow) (keys : List Value) → places ≡ map (λ r. r.picked) group → keys ≡ (group_env [] (map (keyed_of []) group)).keys
-    → (let l : Environment = record { rows = picked_rows ss []; group = map (picked_rows ss) places; keys = keys } in l) ≡ group_env [] (map (keyed_of ss) group)
-env_is ss places [] keys h k = λ i. record { rows = none_picked ss i; group = map (picked_rows ss) (h i); keys = k i }
-env_is ss places (r ∷ rs) keys h k = λ i. record { rows = none_picked ss i; group = (ap (map (picked_rows ss)) h ∙ rows_seen ss (r ∷ rs)) i; keys = k i }
+pub env_is : (ss : List (List Row)) (first : List ℕ) (places : List (List ℕ)) (group : List FoundRow) (keys : List Value) → places ≡ map (λ r. r.picked) group → keys ≡ (group_env [] (map (keyed_of []) group)).keys
+    → (let l : Environment = record { rows = picked_rows ss first; group = map (picked_rows ss) places; keys = keys } in l) ≡ group_env (picked_rows ss first) (map (keyed_of ss) group)
+env_is ss first places [] keys h k = λ i. record { rows = picked_rows ss first; group = map (picked_rows ss) (h i); keys = k i }
+env_is ss first places (r ∷ rs) keys h k = λ i. record { rows = picked_rows ss first; group = (ap (map (picked_rows ss)) h ∙ rows_seen ss (r ∷ rs)) i; keys = k i }
 
 pub places_within : (places : List (List ℕ)) (rows : List FoundRow) (n m : ℕ) → places ≡ map (λ r. r.picked) rows → take n (drop m places) ≡ map (λ r. r.picked) (take n (drop m rows))
 places_within places rows n m h = ap (λ ps. take n (drop m ps)) h ∙ (ap (take n) (drop-map (λ r. r.picked) m rows) ∙ take-map (λ r. r.picked) n (drop m rows))
@@ -101,33 +100,33 @@ keyed_long : (n : ℕ) (ss : List (List Row)) (rows : List FoundRow) → AllByRe
 keyed_long n ss [] h = tt
 keyed_long n ss (r ∷ rs) h = (h.0, keyed_long n ss rs h.1)
 
-each_of : (q : Reading) (ss : List (List Row)) (gs : List (List FoundRow)) → map (λ g. sortable q (group_env [] g)) (map (map (keyed_of ss)) gs) ≡ map (of_group q ss) gs
-each_of q ss [] = refl
-each_of q ss (g ∷ gs) = ap (λ ys. of_group q ss g ∷ ys) (each_of q ss gs)
+each_of : (q : Reading) (outer : List Row) (ss : List (List Row)) (gs : List (List FoundRow)) → map (λ g. sortable q (group_env outer g)) (map (map (keyed_of ss)) gs) ≡ map (of_group q outer ss) gs
+each_of q outer ss [] = refl
+each_of q outer ss (g ∷ gs) = ap (λ ys. of_group q outer ss g ∷ ys) (each_of q outer ss gs)
 
-some_keys : (q : Reading) (ss : List (List Row)) (found : List FoundRow) (t : Term) (ts : List Term) → AllByRecursion (λ r. length r.keys ≡ length (t ∷ ts)) found
-    → all_answers (map (λ g. sortable q (group_env [] g)) (grouped (t ∷ ts) (map (keyed_of ss) found))) ≡ of_runs q ss (map order_of (t ∷ ts)) (sorted_by_keys (map order_of (t ∷ ts)) found)
-some_keys q ss found t ts h =
-    ap (λ gs. all_answers (map (λ g. sortable q (group_env [] g)) gs))
+some_keys : (q : Reading) (outer : List Row) (ss : List (List Row)) (found : List FoundRow) (t : Term) (ts : List Term) → AllByRecursion (λ r. length r.keys ≡ length (t ∷ ts)) found
+    → all_answers (map (λ g. sortable q (group_env outer g)) (grouped (t ∷ ts) (map (keyed_of ss) found))) ≡ of_runs q outer ss (map order_of (t ∷ ts)) (sorted_by_keys (map order_of (t ∷ ts)) found)
+some_keys q outer ss found t ts h =
+    ap (λ gs. all_answers (map (λ g. sortable q (group_env outer g)) gs))
     (grouped_so t ts (map (keyed_of ss) found) (keyed_long (length (t ∷ ts)) ss found h)
     ∙ (ap (groups (λ r s. is_eq (keyed_cmp (map order_of (t ∷ ts)) r s))) (sym (sorted_seen (keyed_of ss) (keyed_cmp (map order_of (t ∷ ts))) found))
     ∙ sym (groups_seen (keyed_of ss) (λ r s. is_eq (keyed_cmp (map order_of (t ∷ ts)) r s)) (sorted_by_keys (map order_of (t ∷ ts)) found))))
-    ∙ ap all_answers (each_of q ss (groups (have_same_keys (map order_of (t ∷ ts))) (sorted_by_keys (map order_of (t ∷ ts)) found)))
+    ∙ ap all_answers (each_of q outer ss (groups (have_same_keys (map order_of (t ∷ ts))) (sorted_by_keys (map order_of (t ∷ ts)) found)))
 
 -- with keys
-pub by_groups : (q : Reading) (ss : List (List Row)) (found : List FoundRow) → (length q.keys ≡ 0 → ⊥) → AllByRecursion (λ r. length r.keys ≡ length q.keys) found
-    → of_runs q ss (map order_of q.keys) (sorted_by_keys (map order_of q.keys) found) ≡ of_groups q (map (keyed_of ss) found)
-by_groups q ss found some h = by q.keys some h
+pub by_groups : (q : Reading) (outer : List Row) (ss : List (List Row)) (found : List FoundRow) → (length q.keys ≡ 0 → ⊥) → AllByRecursion (λ r. length r.keys ≡ length q.keys) found
+    → of_runs q outer ss (map order_of q.keys) (sorted_by_keys (map order_of q.keys) found) ≡ of_groups q outer (map (keyed_of ss) found)
+by_groups q outer ss found some h = by q.keys some h
   where
     by : (ks : List Term) → (length ks ≡ 0 → ⊥) → AllByRecursion (λ r. length r.keys ≡ length ks) found
-        → of_runs q ss (map order_of ks) (sorted_by_keys (map order_of ks) found) ≡ all_answers (map (λ g. sortable q (group_env [] g)) (grouped ks (map (keyed_of ss) found)))
+        → of_runs q outer ss (map order_of ks) (sorted_by_keys (map order_of ks) found) ≡ all_answers (map (λ g. sortable q (group_env outer g)) (grouped ks (map (keyed_of ss) found)))
     by [] none h = absurd (none refl)
-    by (t ∷ ts) some h = sym (some_keys q ss found t ts h)
+    by (t ∷ ts) some h = sym (some_keys q outer ss found t ts h)
 
 -- without any
-pub by_one : (q : Reading) (ss : List (List Row)) (found : List FoundRow) → length q.keys ≡ 0 → (of_group q ss found then λ s. let l : Answer (List Sortable) = Ok (s ∷ []) in l) ≡ of_groups q (map (keyed_of ss) found)
-by_one q ss found none = by q.keys none
+pub by_one : (q : Reading) (outer : List Row) (ss : List (List Row)) (found : List FoundRow) → length q.keys ≡ 0 → (of_group q outer ss found then λ s. let l : Answer (List Sortable) = Ok (s ∷ []) in l) ≡ of_groups q outer (map (keyed_of ss) found)
+by_one q outer ss found none = by q.keys none
   where
-    by : (ks : List Term) → length ks ≡ 0 → (of_group q ss found then λ s. let l : Answer (List Sortable) = Ok (s ∷ []) in l) ≡ all_answers (map (λ g. sortable q (group_env [] g)) (grouped ks (map (keyed_of ss) found)))
+    by : (ks : List Term) → length ks ≡ 0 → (of_group q outer ss found then λ s. let l : Answer (List Sortable) = Ok (s ∷ []) in l) ≡ all_answers (map (λ g. sortable q (group_env outer g)) (grouped ks (map (keyed_of ss) found)))
     by [] h = refl
     by (t ∷ ts) h = absurd (omega (arith, h))

@@ -13,6 +13,7 @@ pub mod Levels
 pub mod Loaded
 pub mod Misses
 pub mod Needed
+pub mod Outer
 pub mod PartRows
 pub mod Places
 pub mod PlacesOfRows

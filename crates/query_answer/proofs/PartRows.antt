@@ -10,7 +10,7 @@ use Rattle.sqlval.specs.declared.fault.Fault.{Fault}
 use Rattle.query_terms.specs.Outcome.{AnswersBy, IsRefusedBy}
 use Rattle.query_terms.specs.Rows.{picked_rows}
 use Rattle.query_terms.specs.Values.{Row}
-use Rattle.query_names.specs.Readings.{Sortable, nulls}
+use Rattle.query_names.specs.Readings.{Sortable, combined, nulls}
 use Rattle.query_names.specs.declared.reading.Condition.{Condition}
 use Rattle.query_names.specs.declared.reading.Reading.{Reading}
 use Rattle.query_answer.specs.Nesting.{Found, Named, all_found, all_kept, at_leaf, beside_rows, found_of, given, is_left, joins_by, nest_from, onto, shown, stepped, tried}
@@ -19,7 +19,7 @@ use Rattle.query_answer.specs.declared.results.FoundRow.{FoundRow}
 use Rattle.query_answer.proofs.Flows.{followed_nothing, followed_twice, kept_rows}
 use Rattle.query_answer.proofs.Given.{each_to, given_alone, given_refused, kept_alone, one_by_one}
 use Rattle.query_answer.proofs.Levels.{behind_found, refused_found, row_within}
-use Rattle.query_answer.proofs.Quiet.{refused_quietly}
+use Rattle.query_answer.proofs.Quiet.{combined_runs, refused_quietly}
 
 -- ---- tests
 
@@ -123,8 +123,8 @@ seen_again (Ok ys) = ap done (each_same ys)
 given_is : (q : Reading) (s : Named) (rows : List Row) → q.is_grouped ≡ false → q.sources ≡ s ∷ [] → is_left s.1 ≡ false → given_of q rows ≡ seen (collected (of_rows q s.1 rows))
 given_is q s rows single same e =
     let sources = beside_rows q.sources (rows ∷ []) in
-    given_alone q sources single
-    ∙ (seen_again (one_by_one q sources) ∙ ap seen (sym (kept_alone q sources single) ∙ kept_of_rows q s rows same e))
+    given_alone q [] (combined sources []) single
+    ∙ (seen_again (one_by_one q (combined sources [])) ∙ ap seen (sym (kept_alone q (combined sources []) single) ∙ kept_of_rows q s rows same e))
 
 -- ---- parts
 
@@ -209,8 +209,8 @@ module _ (q : Reading) (s : Named) (ss : List (List Row)) (rows : List Row) (old
   pub part_quiet : (f : Fault) → IsRefusedBy (onto (all_found ss old) (of_rows q s.1 rows)) f → IsNotDiskFault f
   part_quiet f h =
       let sources = beside_rows q.sources (rows ∷ []) in
-      refused_quietly q sources f
-      (given_refused q sources f
+      refused_quietly q [] (combined sources []) f (combined_runs sources [])
+      (given_refused q [] (combined sources []) f
       (subst (λ (a : Answer (List Found)). IsRefusedBy a f) (sym (kept_of_rows q s rows same left)) (refused_alone f (collected (of_rows q s.1 rows)) (all_found ss old) h)))
 
   pub part_calm : {T : Type 0} (result : Result T Fault) → AnswersBy (λ u. all_found ss new) (onto (all_found ss old) (of_rows q s.1 rows)) result → IfErr result IsNotDiskFault

@@ -15,7 +15,7 @@ use Rattle.query_names.specs.declared.reading.Condition.{Condition}
 use Rattle.query_names.specs.declared.reading.Condition.TheVariants.{Always, Where, OrNulls}
 use Rattle.query_names.specs.declared.reading.Reading.{Reading}
 use Rattle.query_names.specs.Readings.{arguments, combined, crossed, env_of, environments, filtered, group_env, grouped, holds, joined, keyed_row, nulls, sortable, values}
-use Rattle.query_answer.specs.Answers.{given_rows}
+use Rattle.query_answer.specs.Answers.{given_from}
 use Rattle.query_answer.specs.Groups.{Keyed}
 use Rattle.query_terms.proofs.Quiet.{IsQuiet, Quiet, each, memory_is_quiet, next, of_counted, of_value, quiet_fault}
 use Rattle.query_names.proofs.QuietValues.{of_holds, of_values}
@@ -72,7 +72,7 @@ joined_runs Always rows source = crossed_runs rows source
 joined_runs (Where t) rows source = kept_runs t (crossed rows source) (crossed_runs rows source)
 joined_runs (OrNulls t) rows source = or_one_runs (rows ++ nulls ∷ []) (kept (holds t) (crossed rows source)) (kept_runs t (crossed rows source) (crossed_runs rows source))
 
-combined_runs : (ss : List (Condition × List Row)) (rows : List Row) → RunsQuietly (combined ss rows)
+pub combined_runs : (ss : List (Condition × List Row)) (rows : List Row) → RunsQuietly (combined ss rows)
 combined_runs [] rows = tt
 combined_runs (s ∷ ss) rows = each_runs (combined ss) (λ x. combined_runs ss x) (joined s.0 rows s.1) (joined_runs s.0 rows s.1)
 
@@ -96,35 +96,35 @@ of_keyed q rows =
 
 -- ---- the query
 
-abbrev combinations : Reading → List (Condition × List Row) → Flow (List Row)
-combinations q sources = filtered q.filter (combined sources [])
+abbrev combinations : Reading → Flow (List Row) → Flow (List Row)
+combinations q flow = filtered q.filter flow
 
-combinations_run : (q : Reading) (sources : List (Condition × List Row)) → RunsQuietly (combinations q sources)
-combinations_run q sources = filtered_runs q.filter (combined sources []) (combined_runs sources [])
+combinations_run : (q : Reading) (flow : Flow (List Row)) → RunsQuietly flow → RunsQuietly (combinations q flow)
+combinations_run q flow h = filtered_runs q.filter flow h
 
-abbrev of_groups : Reading → Answer (List Keyed) → Flow Environment
-of_groups q a = elim a [ Err r ↦ Refused r | Ok rows ↦ flow_of (map (group_env []) (grouped q.keys rows)) ]
+abbrev of_groups : Reading → List Row → Answer (List Keyed) → Flow Environment
+of_groups q outer a = elim a [ Err r ↦ Refused r | Ok rows ↦ flow_of (map (group_env outer) (grouped q.keys rows)) ]
 
-groups_run : (q : Reading) (a : Answer (List Keyed)) → IsQuiet a → RunsQuietly (of_groups q a)
-groups_run q (Ok rows) h = listed_runs (map (group_env []) (grouped q.keys rows))
-groups_run q (Err r) h = h
+groups_run : (q : Reading) (outer : List Row) (a : Answer (List Keyed)) → IsQuiet a → RunsQuietly (of_groups q outer a)
+groups_run q outer (Ok rows) h = listed_runs (map (group_env outer) (grouped q.keys rows))
+groups_run q outer (Err r) h = h
 
-environments_run : (q : Reading) (sources : List (Condition × List Row)) → RunsQuietly (environments q [] (combinations q sources))
-environments_run q sources = by q.is_grouped
+environments_run : (q : Reading) (outer : List Row) (flow : Flow (List Row)) → RunsQuietly flow → RunsQuietly (environments q outer (combinations q flow))
+environments_run q outer flow h = by q.is_grouped
   where
-    by : (b : Bool) → RunsQuietly (cond b (of_groups q (collected (computed (keyed_row q) (combinations q sources)))) (for_each (λ rows. Next (env_of rows) Finished) (combinations q sources)))
+    by : (b : Bool) → RunsQuietly (cond b (of_groups q outer (collected (computed (keyed_row q) (combinations q flow)))) (for_each (λ rows. Next (env_of rows) Finished) (combinations q flow)))
     by true =
-        groups_run q (collected (computed (keyed_row q) (combinations q sources)))
-        (collected_quietly (computed (keyed_row q) (combinations q sources)) (each_runs (λ x. row_of (keyed_row q x)) (λ x. one_runs (keyed_row q x) (of_keyed q x)) (combinations q sources) (combinations_run q sources)))
-    by false = each_runs (λ rows. Next (env_of rows) Finished) (λ rows. tt) (combinations q sources) (combinations_run q sources)
+        groups_run q outer (collected (computed (keyed_row q) (combinations q flow)))
+        (collected_quietly (computed (keyed_row q) (combinations q flow)) (each_runs (λ x. row_of (keyed_row q x)) (λ x. one_runs (keyed_row q x) (of_keyed q x)) (combinations q flow) (combinations_run q flow h)))
+    by false = each_runs (λ rows. Next (env_of rows) Finished) (λ rows. tt) (combinations q flow) (combinations_run q flow h)
 
-given_quietly : (q : Reading) (sources : List (Condition × List Row)) → IsQuiet (given_rows q sources)
-given_quietly q sources =
-    collected_quietly (computed (sortable q) (environments q [] (combinations q sources)))
-    (each_runs (λ x. row_of (sortable q x)) (λ x. one_runs (sortable q x) (of_sortable q x)) (environments q [] (combinations q sources)) (environments_run q sources))
+given_quietly : (q : Reading) (outer : List Row) (flow : Flow (List Row)) → RunsQuietly flow → IsQuiet (given_from q outer flow)
+given_quietly q outer flow h =
+    collected_quietly (computed (sortable q) (environments q outer (combinations q flow)))
+    (each_runs (λ x. row_of (sortable q x)) (λ x. one_runs (sortable q x) (of_sortable q x)) (environments q outer (combinations q flow)) (environments_run q outer flow h))
 
 -- ---- faults
 
-pub refused_quietly : (q : Reading) (sources : List (Condition × List Row)) (f : Fault) → IsRefusedBy (given_rows q sources) f → IsNotDiskFault f
-refused_quietly q sources f (inl m) = memory_is_quiet f m
-refused_quietly q sources f (inr e) = quiet_fault f (subst IsQuiet e (given_quietly q sources))
+pub refused_quietly : (q : Reading) (outer : List Row) (flow : Flow (List Row)) (f : Fault) → RunsQuietly flow → IsRefusedBy (given_from q outer flow) f → IsNotDiskFault f
+refused_quietly q outer flow f h (inl m) = memory_is_quiet f m
+refused_quietly q outer flow f h (inr e) = quiet_fault f (subst IsQuiet e (given_quietly q outer flow h))

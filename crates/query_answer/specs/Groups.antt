@@ -1,5 +1,5 @@
 -- Rows that stand in groups.
-use Rattle.std.specs.Prelude.{Bool, List, [], map}
+use Rattle.std.specs.Prelude.{Bool, List, map}
 use Rattle.std.specs.Ordering.{is_eq}
 use Rattle.sqlval.specs.Lists.{groups, sorted}
 use Rattle.sqlval.specs.Refusals.{Answer, all_answers}
@@ -25,14 +25,14 @@ have_same_keys orders r s = is_eq (by_values orders r.keys s.keys)
 abbrev pub sorted_by_keys : List SortOrder → List FoundRow → List FoundRow
 sorted_by_keys orders = sorted (λ r s. by_values orders r.keys s.keys)
 
--- what a query gives of a group
-abbrev pub of_group : Reading → List (List Row) → List FoundRow → Answer Sortable
-of_group q sources group = sortable q (group_env [] (map (keyed_of sources) group))
+-- what a query gives of a group, beside these rows of NEW and OLD
+abbrev pub of_group : Reading → List Row → List (List Row) → List FoundRow → Answer Sortable
+of_group q outer sources group = sortable q (group_env outer (map (keyed_of sources) group))
 
 -- of each group of neighbours with the same keys
-abbrev pub of_runs : Reading → List (List Row) → List SortOrder → List FoundRow → Answer (List Sortable)
-of_runs q sources orders rows = all_answers (map (of_group q sources) (groups (have_same_keys orders) rows))
+abbrev pub of_runs : Reading → List Row → List (List Row) → List SortOrder → List FoundRow → Answer (List Sortable)
+of_runs q outer sources orders rows = all_answers (map (of_group q outer sources) (groups (have_same_keys orders) rows))
 
 -- of each group, in the order of the keys
-abbrev pub of_groups : Reading → List Keyed → Answer (List Sortable)
-of_groups q rows = all_answers (map (λ group. sortable q (group_env [] group)) (grouped q.keys rows))
+abbrev pub of_groups : Reading → List Row → List Keyed → Answer (List Sortable)
+of_groups q outer rows = all_answers (map (λ group. sortable q (group_env outer group)) (grouped q.keys rows))

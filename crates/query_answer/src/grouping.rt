@@ -5,7 +5,7 @@ ghost use Rattle.std.specs.List.{AllByRecursion, prefix_len};
 ghost use Rattle.sqlval.specs.Lists.{groups};
 ghost use Rattle.sqlval.specs.Refusals.{◌then◌};
 ghost use Rattle.query_terms.specs.Outcome.{AnswersBy};
-ghost use Rattle.query_terms.specs.Rows.{seen};
+ghost use Rattle.query_terms.specs.Rows.{picked_rows, seen};
 ghost use Rattle.query_names.specs.Readings as meant;
 ghost use Rattle.query_answer.specs.Groups.{have_same_keys, keyed_of, of_group, of_groups, of_runs, sorted_by_keys};
 ghost use Rattle.query_answer.specs.Nesting.{shown};
@@ -74,14 +74,15 @@ fn keys_of(group: &[FoundRow]) -> &[Value]
     }
 }
 
-/// What is evaluated over of a group.
+/// What is evaluated over of a group: NEW and OLD stand beside it.
 fn group_env<'a>(loops: Loops<'a>, group: &'a [FoundRow], places: &'a [RowPlaces]) -> Env<'a>
     requires { places.now ≡ map (λ r. r.picked) group.now }
-    ensures { seen result ≡ meant.group_env [] (map (keyed_of loops.entry.sources.now) group.entry.now) }
+    ensures { seen result ≡ meant.group_env (picked_rows loops.entry.sources.now loops.entry.outer.now)
+        (map (keyed_of loops.entry.sources.now) group.entry.now) }
 {
     Env {
         sources: loops.sources,
-        picked: &[],
+        picked: loops.outer,
         group: places,
         keys: keys_of(group),
     }
@@ -95,7 +96,8 @@ fn group_result(
     places: &[RowPlaces],
 ) -> R<FoundRow>
     requires { places.now ≡ map (λ r. r.picked) group.now }
-    ensures { AnswersBy shown (of_group loops.entry.reading.now loops.entry.sources.now group.now) result }
+    ensures { AnswersBy shown (of_group loops.entry.reading.now
+        (picked_rows loops.entry.sources.now loops.entry.outer.now) loops.entry.sources.now group.now) result }
 {
     found_row(alloc, loops.reading, group_env(loops, group, places))
 }
@@ -103,7 +105,8 @@ fn group_result(
 /// What a query gives of all rows as one group.
 fn one_group(alloc: Global, loops: Loops<'_>, rows: &[FoundRow]) -> R<Vec<FoundRow>>
     ensures { AnswersBy (λ found. map shown found.items)
-        (of_group loops.entry.reading.now loops.entry.sources.now rows.now then λ s. Ok (s ∷ [])) result }
+        (of_group loops.entry.reading.now (picked_rows loops.entry.sources.now loops.entry.outer.now)
+        loops.entry.sources.now rows.now then λ s. Ok (s ∷ [])) result }
 {
     let places = places_of(alloc, rows)?;
     let mut found = Vec::new(alloc);
@@ -121,7 +124,8 @@ fn each_group(
 ) -> R<Vec<FoundRow>>
     requires { places.now ≡ map (λ r. r.picked) rows.now }
     ensures { AnswersBy (λ found. map shown found.items)
-        (of_runs loops.entry.reading.now loops.entry.sources.now orders.now rows.now) result }
+        (of_runs loops.entry.reading.now (picked_rows loops.entry.sources.now loops.entry.outer.now)
+        loops.entry.sources.now orders.now rows.now) result }
 {
     let mut found = Vec::new(alloc);
     let mut start = 0;
@@ -137,7 +141,8 @@ fn each_group(
 /// What a query gives of each group, in the order of the keys.
 fn sorted_groups(alloc: Global, loops: Loops<'_>, found: Vec<FoundRow>) -> R<Vec<FoundRow>>
     ensures { AnswersBy (λ rows. map shown rows.items)
-        (of_runs loops.entry.reading.now loops.entry.sources.now (map order_of loops.entry.reading.now.keys)
+        (of_runs loops.entry.reading.now (picked_rows loops.entry.sources.now loops.entry.outer.now)
+        loops.entry.sources.now (map order_of loops.entry.reading.now.keys)
         (sorted_by_keys (map order_of loops.entry.reading.now.keys) found.items)) result }
 {
     let mut rows = found;
@@ -157,7 +162,8 @@ fn sorted_groups(alloc: Global, loops: Loops<'_>, found: Vec<FoundRow>) -> R<Vec
 pub fn grouped_rows(alloc: Global, loops: Loops<'_>, found: Vec<FoundRow>) -> R<Vec<FoundRow>>
     ensures { AllByRecursion (λ r. length r.keys ≡ length loops.entry.reading.now.keys) found.items
         → AnswersBy (λ rows. map shown rows.items)
-        (of_groups loops.entry.reading.now (map (keyed_of loops.entry.sources.now) found.items)) result }
+        (of_groups loops.entry.reading.now (picked_rows loops.entry.sources.now loops.entry.outer.now)
+        (map (keyed_of loops.entry.sources.now) found.items)) result }
 {
     if loops.reading.keys.len() == 0 {
         one_group(alloc, loops, found.as_slice())

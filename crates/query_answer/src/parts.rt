@@ -111,6 +111,7 @@ fn loops_over<'a>(reading: &'a Reading, rows: &'a Many<SourceRow>) -> Loops<'a>
     Loops {
         reading,
         sources: from_ref(rows).as_slice(),
+        outer: &[],
         lookups: &[],
     }
 }

@@ -1,7 +1,5 @@
 -- CREATE INDEX on a listed table: what its names stand for, and what refuses it.
-use Rattle.std.proofs.Common.{◌≡◌, refl, sym, ap, subst, ◌∙◌, ◌⊎◌, inl, inr, ℕ, ◌+◌, ◌<◌, ℤ, Bool, true, false, ◌||◌, List, [], ◌∷◌, ◌++◌, append_assoc, length, drop, map, get_or, Option, Some, None, Ok, Err, arith}
-use Rattle.std.proofs.lemmas.Bool.{false≢true}
-use Rattle.std.proofs.lemmas.List.Elements.{Contains-append_right}
+use Rattle.std.proofs.Common.{◌≡◌, refl, sym, ap, subst, ◌∙◌, ◌⊎◌, inl, inr, ℕ, ◌+◌, ◌<◌, ℤ, Bool, false, ◌||◌, List, [], ◌∷◌, ◌++◌, append_assoc, length, drop, map, get_or, Option, Some, None, Ok, Err, arith}
 use Rattle.std.specs.List.{Contains, list_any}
 use Rattle.std.proofs.lemmas.Option.{slice_get-map}
 use Rattle.std.specs.Prelude.{filter_map, option_map, is_none, is_some, slice_get, unwrap_or, MatchOption}
@@ -15,15 +13,16 @@ use Rattle.sqlval.specs.declared.value.Value.{Value}
 use Rattle.sql_syntax.specs.declared.create.IndexColumn.{IndexColumn as Written}
 use Rattle.sql_syntax.specs.declared.create.IndexDefinition.{IndexDefinition}
 use Rattle.sql_syntax.specs.declared.create.NewObject.TheVariants as new
-use Rattle.catalog.specs.Database.{Name, Database, Object, TableColumn, ATable, AnIndex, AView, object, with_object}
-use Rattle.catalog.specs.Laws.{FindsListed, IsNoSource, IsNoTable, NamesListed}
-use Rattle.catalog.specs.Listed.{Listed, Lists, is_reserved, place_named, as_column, with_rows, table_named, as_view, view_named}
+use Rattle.catalog.specs.Database.{Name, Database, Object, TableColumn, ATable, AnIndex, AView, ATrigger, object, with_object}
+use Rattle.catalog.specs.Laws.{FindsListed, IsIndexOrNone, IsNoSource, IsNoTable, NamesListed}
+use Rattle.catalog.specs.Listed.{Listed, Lists, is_reserved, place_named, as_column, with_rows, table_named, as_view, trigger_named, view_named}
 use Rattle.catalog.specs.declared.tables.Column.{Column}
 use Rattle.catalog.specs.declared.tables.IndexColumn.{IndexColumn}
 use Rattle.catalog.specs.declared.tables.Table.{Table}
+use Rattle.catalog.specs.declared.tables.Trigger.{Trigger}
 use Rattle.catalog.specs.declared.tables.View.{View}
 use Rattle.query_names.specs.Bound.{IsFaultOf, is_twice_named, source_seen}
-use Rattle.query_names.specs.Checked.{Checked, Meant, good, bad, both, meant, faults, also, known_all, known_map, ◌and_then◌, unless, onto_list}
+use Rattle.query_names.specs.Checked.{Checked, Meant, good, bad, both, meant, faults, known_all, known_map, ◌and_then◌, unless, onto_list}
 use Rattle.query_names.specs.Expressions.{resolve_collation}
 use Rattle.query_names.specs.Named.{Names}
 use Rattle.query_names.specs.Schema.{create, index_made, resolve_index_column}
@@ -33,6 +32,7 @@ use Rattle.query_names.proofs.ColumnPlaces.{no_place, one_place}
 use Rattle.query_bind.specs.Indexed.{IsIndexOn, IsIndexRefusal, MakesListedIndex, RefusesIndexAsDefined, collation_written, key_of, keys_known, names_in}
 use Rattle.query_bind.proofs.Chains.{refused_first, refused_later, then_good}
 use Rattle.query_bind.proofs.Grown.{next_item}
+use Rattle.query_bind.proofs.Refusals.{Has, is_added, later, map_has, nothing, unless_has, unless_later}
 
 -- ---- names
 
@@ -127,47 +127,17 @@ module _ (finds : FindsListed) (names : NamesListed) (rows_at : ℕ → List (�
   made_on : (t : Table) → table_named d.table l.tables ≡ Some t → index_made (object db d.table) d ≡ known_map index_over (keys_known t d)
   made_on t named = ap (λ o. index_made o d) (on_table t named)
 
-  nothing : (found : Option Object) → is_some found ≡ false → found ≡ None
-  nothing None h = refl
-  nothing (Some o) h = absurd (false≢true (sym h))
-
-  is_added : (o : Object) (reserved : Bool) (taken : Option Object) → reserved ≡ false → taken ≡ None
-      → unless reserved Misuse (unless (is_some taken) Exists (known_map (with_object db d.name) (good o))) ≡ good (with_object db d.name o)
-  is_added o reserved taken free fresh =
-      ap (λ b. unless b Misuse (unless (is_some taken) Exists (known_map (with_object db d.name) (good o)))) free
-      ∙ ap (λ t. unless false Misuse (unless (is_some t) Exists (known_map (with_object db d.name) (good o)))) fresh
-
   pub makes : (t : Table) (columns : List IndexColumn) → IsIndexOn l d t columns → create db (new.Index d) ≡ good (with_object db d.name (index_over (map key_of columns)))
   makes t columns is =
       ap (λ b. unless b Misuse (placed (index_made (object db d.table) d))) is.once
       ∙ (ap (λ k. unless false Misuse (placed k)) (made_on t is.on ∙ ap (known_map index_over) is.known)
-      ∙ ap (unless false Misuse) (is_added (index_over (map key_of columns)) (is_reserved d.name) (object db d.name) is.free
+      ∙ ap (unless false Misuse) (is_added db d.name (index_over (map key_of columns)) (is_reserved d.name) (object db d.name) is.free
       (nothing (object db d.name) (names rows_at l db d.name lists ∙ is.new))))
 
   -- ---- refusals
 
-  record Has {A : Type 0} (k : Checked A) (r : Refusal) : Type 0 where
-    among : Contains (faults k) r
-
-  unless_has : {A : Type 0} (b : Bool) (r : Refusal) (k : Checked A) → b ≡ true → Has (unless b r k) r
-  unless_has true r (Meant x ss) h = record { among = (0, omega arith, refl) }
-  unless_has false r k h = absurd (false≢true h)
-
-  unless_later : {A : Type 0} (b : Bool) (s r : Refusal) (k : Checked A) → Has k r → Has (unless b s k) r
-  unless_later true s r (Meant x ss) h = record { among = Contains-append_right (s ∷ []) ss r h.among }
-  unless_later false s r (Meant x ss) h = record { among = h.among }
-
-  map_has : {A B : Type 0} (f : A → B) (k : Checked A) (r : Refusal) → Has k r → Has (known_map f k) r
-  map_has f (Meant x rs) r h = record { among = h.among }
-
   in_made : (r : Refusal) → Has (index_made (object db d.table) d) r → Has (create db (new.Index d)) r
   in_made r h = unless_later _ Misuse r _ (unless_later (is_reserved d.name) Misuse r _ (unless_later (is_some (object db d.name)) Exists r _ (map_has (with_object db d.name) _ r h)))
-
-  later : {A B : Type 0} (k : Checked A) (f : A → Checked B) (r : Refusal) → Has (f (meant k)) r → Has (k and_then f) r
-  later {B = B} (Meant x rs) f r h = onto (f x) h
-    where
-      onto : (k : Checked B) → Has k r → Has (also rs k) r
-      onto (Meant y ss) h = record { among = Contains-append_right rs ss r h.among }
 
   missing_table : table_named d.table l.tables ≡ None → Has (index_made (object db d.table) d) NoSuch
   missing_table none = by_object (object db d.table) (on_none none)
@@ -175,14 +145,21 @@ module _ (finds : FindsListed) (names : NamesListed) (rows_at : ℕ → List (�
       no_such : {A : Type 0} (k : Checked A) (o : Object) → Has (k and_then λ _. bad o NoSuch) NoSuch
       no_such k o = later k (λ _. bad o NoSuch) NoSuch (record { among = (0, omega arith, refl) })
 
-      no_source : (found : Option Object) → IsNoSource found → Has (index_made found d) NoSuch
-      no_source found (inl is) = subst (λ (o : Option Object). Has (index_made o d) NoSuch) (sym is) (no_such (known_all (map resolve_collation (filter_map (λ c. c.collation) d.columns))) (index_over []))
-      no_source found (inr (i, is)) = subst (λ (o : Option Object). Has (index_made o d) NoSuch) (sym is) (no_such (known_all (map resolve_collation (filter_map (λ c. c.collation) d.columns))) (index_over []))
+      no_index : (found : Option Object) → IsIndexOrNone found → Has (index_made found d) NoSuch
+      no_index found (inl is) = subst (λ (o : Option Object). Has (index_made o d) NoSuch) (sym is) (no_such (known_all (map resolve_collation (filter_map (λ c. c.collation) d.columns))) (index_over []))
+      no_index found (inr (i, is)) = subst (λ (o : Option Object). Has (index_made o d) NoSuch) (sym is) (no_such (known_all (map resolve_collation (filter_map (λ c. c.collation) d.columns))) (index_over []))
+
+      no_source : (found : Option Object) → IsNoSource l d.table found → Has (index_made found d) NoSuch
+      no_source found = by_trigger (trigger_named d.table l.triggers)
+        where
+          by_trigger : (trigger : Option Trigger) → MatchOption trigger (IsIndexOrNone found) (λ t. found ≡ Some (ATrigger t.definition)) → Has (index_made found d) NoSuch
+          by_trigger None none = no_index found none
+          by_trigger (Some t) is = subst (λ (o : Option Object). Has (index_made o d) NoSuch) (sym is) (no_such (known_all (map resolve_collation (filter_map (λ c. c.collation) d.columns))) (index_over []))
 
       by_object : (found : Option Object) → IsNoTable l d.table found → Has (index_made found d) NoSuch
       by_object found = by_view (view_named d.table l.views)
         where
-          by_view : (view : Option View) → MatchOption view (IsNoSource found) (λ v. found ≡ Some (AView (as_view v))) → Has (index_made found d) NoSuch
+          by_view : (view : Option View) → MatchOption view (IsNoSource l d.table found) (λ v. found ≡ Some (AView (as_view v))) → Has (index_made found d) NoSuch
           by_view None none = no_source found none
           by_view (Some v) is = subst (λ (o : Option Object). Has (index_made o d) NoSuch) (sym is) (no_such (known_all (map resolve_collation (filter_map (λ c. c.collation) d.columns))) (index_over []))
 

@@ -176,10 +176,7 @@ joined_refused look before j js joined fault h = of_look (look j.source.name) h
 -- ---- the sources are known, and each is placed
 
 pub source_added : (scope : List ScopeSource) (name : Name) (x : List ScopeColumn × Bool) → AreTables scope → AreTables (scope ++ source_of name (good x) ∷ [])
-source_added scope name x h = (
-  list_any-append (λ s. s.needs_name) scope (source_of name (good x) ∷ []) ∙ ap (λ b. b || false) h.0,
-  list_any-append (λ s. not s.is_known) scope (source_of name (good x) ∷ []) ∙ ap (λ b. b || false) h.1,
-)
+source_added scope name x h = list_any-append (λ s. not s.is_known) scope (source_of name (good x) ∷ []) ∙ ap (λ b. b || false) h
 
 -- a table or a view has a name, whichever letters are large
 same_table : (name : Name) (tables : List Table) → table_named (folded name) tables ≡ table_named name tables

@@ -6,7 +6,9 @@ pub mod Keyless
 pub mod Placed
 pub mod Quiet
 pub mod Readings
+pub mod Refusals
 pub mod TermLists
+pub mod TriggerNames
 pub mod ViewColumns
 pub mod Whole
 pub mod SetColumns

@@ -224,8 +224,8 @@ none_within p q (x ∷ xs) h = of_two (p x) (q x) (list_any q xs) (list_any (λ 
 -- each star is of tables alone
 pub closed : (scope : List ScopeSource) (items : List ResultItem) → AreTables scope → list_any (is_open_item scope) items ≡ false
 closed scope [] h = refl
-closed scope (All ∷ is) h = ap (λ b. b || list_any (is_open_item scope) is) (none_within (is_own None) (λ s. not s.is_known) scope h.1) ∙ closed scope is h
-closed scope (AllOf q ∷ is) h = ap (λ b. b || list_any (is_open_item scope) is) (none_within (is_own (Some q)) (λ s. not s.is_known) scope h.1) ∙ closed scope is h
+closed scope (All ∷ is) h = ap (λ b. b || list_any (is_open_item scope) is) (none_within (is_own None) (λ s. not s.is_known) scope h) ∙ closed scope is h
+closed scope (AllOf q ∷ is) h = ap (λ b. b || list_any (is_open_item scope) is) (none_within (is_own (Some q)) (λ s. not s.is_known) scope h) ∙ closed scope is h
 closed scope (Of e n ∷ is) h = closed scope is h
 
 pub clauses_named : (scope : List ScopeSource) (q : Query) (p : Parts) → AreTables scope

@@ -2,3 +2,4 @@ pub mod Assigned
 pub mod Indexed
 pub mod Marked
 pub mod Named
+pub mod Triggers

@@ -22,7 +22,6 @@ use Rattle.query_names.specs.Checked.{Checked, Meant, bad, good, meant, faults, 
 use Rattle.query_names.specs.Expressions.{resolve}
 use Rattle.query_names.specs.Grouping.{has_total}
 use Rattle.query_names.specs.Known.{columns_in}
-use Rattle.query_names.specs.Named.{IsOutside}
 use Rattle.query_names.specs.Queries.{Lookup, as_reading, is_open_item, plain_name, resolve_filter, resolve_items, resolve_join, resolve_order, resolve_query, source_name}
 use Rattle.query_names.specs.Scopes.{source_of}
 use Rattle.query_names.specs.Views.{unless_around, view_columns}
@@ -38,9 +37,9 @@ use Rattle.query_bind.specs.declared.querying.Parts.{Parts}
 
 -- ---- sources
 
--- each source is known, and none is NEW or OLD
+-- each source is known
 abbrev pub AreTables : List ScopeSource → Type 0
-AreTables scope = IsOutside scope × (list_any (λ s. not s.is_known) scope ≡ false)
+AreTables scope = list_any (λ s. not s.is_known) scope ≡ false
 
 -- one source after others, whose columns are these: all that are seen then, and the source with its condition
 abbrev pub source_joined : List ScopeSource → JoinKind → Source → Option Tree → Checked (List ScopeColumn × Bool)

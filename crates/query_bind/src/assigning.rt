@@ -9,7 +9,7 @@ ghost use Rattle.catalog.specs.Listed.{place_named};
 ghost use Rattle.query_names.specs.Bound.{source_seen};
 ghost use Rattle.query_names.specs.Checked.{Meant, faults};
 ghost use Rattle.query_names.specs.Inserts.{AreColumns, IsListRefusal};
-ghost use Rattle.query_names.specs.Named.{IsOutside, NamesBy};
+ghost use Rattle.query_names.specs.Named.{NamesBy};
 ghost use Rattle.query_names.specs.Scopes.{is_doubled};
 ghost use Rattle.query_bind.specs.Assigned.{columns_set, set_known, sets_known};
 
@@ -74,7 +74,7 @@ fn bind_set(
     scope: &[ScopeSource],
     assignment: &Assignment,
 ) -> R<(usize, Term)>
-    ensures { IsOutside scope.now → NamesBy (λ set. set)
+    ensures { NamesBy (λ set. set)
         (set_known table.now.columns scope.now assignment.now) result }
 {
     let term = bind_term(alloc, false, scope, &assignment.value)?;
@@ -88,7 +88,7 @@ fn bind_each(
     scope: &[ScopeSource],
     assignments: &[Assignment],
 ) -> R<Vec<(usize, Term)>>
-    ensures { IsOutside scope.now → NamesBy (λ sets. sets.items)
+    ensures { NamesBy (λ sets. sets.items)
         (sets_known table.now.columns scope.now assignments.now) result }
 {
     let mut sets = Vec::new(alloc);

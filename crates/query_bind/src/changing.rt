@@ -8,7 +8,7 @@ ghost use Rattle.catalog.specs.Database.{Database};
 ghost use Rattle.catalog.specs.Listed.{Lists, listed_in};
 ghost use Rattle.query_names.specs.Checked.{good, known_all, known_map};
 ghost use Rattle.query_names.specs.Expressions.{resolve};
-ghost use Rattle.query_names.specs.Named.{IsOutside, Names, NamesBy};
+ghost use Rattle.query_names.specs.Named.{Names, NamesBy};
 ghost use Rattle.query_names.specs.Scopes as meant;
 ghost use Rattle.query_names.specs.Scopes.{is_named, places_from, resolve_places};
 ghost use Rattle.query_names.specs.Views.{look_up};
@@ -103,9 +103,9 @@ pub fn bind_places(alloc: Global, source: &ScopeSource, names: &[Name]) -> R<Vec
 
 /// The expressions of assignments, or one of the refusals that they have. (`NoSuch`, `Ambiguous`, `Misuse`.)
 pub fn bind_values(alloc: Global, scope: &[ScopeSource], assignments: &[Assignment]) -> R<Vec<Term>>
-    ensures named { IsOutside scope.now → NamesBy (λ terms. terms.items)
+    ensures named { NamesBy (λ terms. terms.items)
         (known_all (map (λ a. resolve false scope.now a.value) assignments.now)) result }
-    ensures not_disk { IsOutside scope.now → IfErr result (λ fault. IsNotDiskFault fault) }
+    ensures not_disk { IfErr result (λ fault. IsNotDiskFault fault) }
 {
     let mut terms = Vec::new(alloc);
     'assignments: for assignment in assignments {

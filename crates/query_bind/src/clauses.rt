@@ -6,7 +6,7 @@ ghost use Rattle.sql_syntax.specs.Tree as form;
 ghost use Rattle.sql_syntax.specs.declared.query.ResultItem.{ResultItem};
 ghost use Rattle.query_names.specs.Checked.{known_all};
 ghost use Rattle.query_names.specs.Expressions.{resolve};
-ghost use Rattle.query_names.specs.Named.{IsOutside, Names, NamesBy};
+ghost use Rattle.query_names.specs.Named.{Names, NamesBy};
 ghost use Rattle.query_names.specs.Queries.{as_named, resolve_filter, resolve_order};
 ghost use Rattle.query_names.specs.declared.scope.ScopeSource.{ScopeSource};
 ghost use Rattle.query_bind.specs.Named.{AreTables, order_given, orders_checked};
@@ -25,8 +25,8 @@ pub fn bind_filter(
     scope: &[ScopeSource],
     condition: &Option<Expr>,
 ) -> R<Option<Term>>
-    ensures named { IsOutside scope.now → Names (resolve_filter scope.now condition.now) result }
-    ensures not_disk { IsOutside scope.now → IfErr result (λ fault. IsNotDiskFault fault) }
+    ensures named { Names (resolve_filter scope.now condition.now) result }
+    ensures not_disk { IfErr result (λ fault. IsNotDiskFault fault) }
 {
     match condition {
         Some(tree) => Ok(Some(bind_term(alloc, false, scope, tree)?)),
@@ -36,8 +36,7 @@ pub fn bind_filter(
 
 /// The keys of GROUP BY, in which no aggregate may stand.
 pub fn bind_keys(alloc: Global, scope: &[ScopeSource], trees: &[Expr]) -> R<Vec<Term>>
-    ensures { IsOutside scope.now
-        → NamesBy (λ keys. keys.items) (known_all (map (resolve false scope.now) trees.now)) result }
+    ensures { NamesBy (λ keys. keys.items) (known_all (map (resolve false scope.now) trees.now)) result }
 {
     let mut keys = Vec::new(alloc);
     'trees: for tree in trees {
@@ -91,7 +90,7 @@ fn bind_name(
     name: &Name,
     tree: &Expr,
 ) -> R<Term>
-    ensures { AreTables scope.now → tree.now ≡ form.Column None name.now
+    ensures { tree.now ≡ form.Column None name.now
         → Names (resolve true scope.now (unwrap_or (as_named name.now items.now)
         (form.Column None name.now))) result }
 {

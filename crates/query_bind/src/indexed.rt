@@ -28,7 +28,7 @@ pub struct BoundIndex<'a> {
 }
 
 /// The place of a column in a table that is known by this name. (`NoSuch`.)
-fn place_in(alloc: Global, as_name: &Name, table: &Table, name: &Name) -> R<usize>
+pub(crate) fn place_in(alloc: Global, as_name: &Name, table: &Table, name: &Name) -> R<usize>
     ensures place { is_twice_named table.now.columns ≡ false
         → Names (place_of (source_seen as_name.now table.now) name.now) result }
     ensures not_disk { IfErr result (λ fault. IsNotDiskFault fault) }

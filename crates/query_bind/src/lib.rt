@@ -1,4 +1,4 @@
-//! The names of whole queries and of CREATE INDEX, looked up among the tables and views of a catalog.
+//! The names of whole queries, of CREATE INDEX and of CREATE TRIGGER, looked up among the tables and views of a catalog.
 #![tactic(auto)]
 
 mod assigning;
@@ -12,6 +12,7 @@ mod parts;
 mod querying;
 mod results;
 mod sources;
+mod triggers;
 mod views;
 
 pub use assigning::bind_sets;
@@ -20,3 +21,4 @@ pub use clauses::bind_filter;
 pub use filtering::bind_where;
 pub use indexed::{BoundIndex, bind_index, indexes_are_created_as_defined};
 pub use querying::{BoundReading, bind_reading};
+pub use triggers::{bind_trigger, fit_target, triggers_are_created_as_defined};

@@ -10,7 +10,8 @@ ghost use Rattle.query_bind.specs.Marked.{keyed_within, IsKeyOf};
 
 use query_names::ScopeColumn;
 use query_terms::{Aggregate, Function, Node, OneSided, Term, TwoSided, is_same};
-use sqlval::{Collation, R, Value};
+use sql_syntax::RaiseAction;
+use sqlval::{Collation, R, Text, Value};
 use std::alloc::Global;
 
 /// The term of a form.
@@ -54,6 +55,14 @@ fn value_copy(alloc: Global, value: &Value) -> R<Value>
         Value::Text(text) => Ok(Value::Text(text.copy(alloc)?)),
         Value::Blob(bytes) => Ok(Value::Blob(bytes.copy(alloc)?)),
     }
+}
+
+/// A copy of RAISE.
+fn raise_copy(alloc: Global, action: RaiseAction, text: &Text) -> R<Term>
+    ensures { IsOrMemory (λ copy. copy ≡ form.Raise action text.now) result }
+{
+    let text = text.copy(alloc)?;
+    Ok(term_of(Node::Raise(action, text)))
 }
 
 /// A copy of a term, in which each part that is a key is marked so, the largest first. Without keys it is the term itself.
@@ -107,6 +116,7 @@ fn marked_within(alloc: Global, keys: &[Term], term: &Term) -> R<Term>
         Node::Between(is_negated, operand, low, high) => {
             marked_between(alloc, keys, *is_negated, operand, low, high)
         }
+        Node::Raise(action, text) => raise_copy(alloc, *action, text),
     }
 }
 

@@ -6,7 +6,7 @@ ghost use Rattle.std.specs.List.{list_any};
 ghost use Rattle.sqlval.specs.Faults.{IsOrMemory};
 ghost use Rattle.sqlval.specs.Names as spelled;
 ghost use Rattle.sqlval.specs.Names.{is_same_name};
-ghost use Rattle.query_names.specs.Named.{IsOutside, NamesBy};
+ghost use Rattle.query_names.specs.Named.{NamesBy};
 ghost use Rattle.query_names.specs.Queries as meant;
 ghost use Rattle.query_names.specs.Queries.{cells_from, is_own, resolve_item, resolve_items, result_column, stars_from};
 ghost use Rattle.query_bind.specs.Named.{name_given};
@@ -169,8 +169,7 @@ fn push_item(
     scope: &[ScopeSource],
     item: &ResultItem,
 ) -> R<()>
-    ensures { IsOutside scope.now
-        → NamesBy (λ done. found.new.items) (onto_list found.old.items
+    ensures { NamesBy (λ done. found.new.items) (onto_list found.old.items
         (resolve_item scope.now item.now)) result }
 {
     match item {
@@ -189,7 +188,7 @@ pub fn bind_results(
     scope: &[ScopeSource],
     items: &[ResultItem],
 ) -> R<Vec<(Term, ScopeColumn)>>
-    ensures { IsOutside scope.now → NamesBy (λ found. found.items) (resolve_items scope.now items.now) result }
+    ensures { NamesBy (λ found. found.items) (resolve_items scope.now items.now) result }
 {
     let mut found = Vec::new(alloc);
     'items: for item in items {

@@ -6,7 +6,7 @@ ghost use Rattle.sqlval.specs.Names as spelled;
 ghost use Rattle.catalog.specs.Listed.{Listed};
 ghost use Rattle.query_names.specs.Bound.{source_seen, columns_seen};
 ghost use Rattle.query_names.specs.Checked.{good};
-ghost use Rattle.query_names.specs.Named.{IsOutside, Names, NamesBy};
+ghost use Rattle.query_names.specs.Named.{Names, NamesBy};
 ghost use Rattle.query_names.specs.Queries as meant;
 ghost use Rattle.query_names.specs.Queries.{resolve_join};
 ghost use Rattle.query_names.specs.Scopes as seen;
@@ -113,7 +113,7 @@ fn condition_of(
     kind: JoinKind,
     condition: &Option<Expr>,
 ) -> R<Condition>
-    ensures { IsOutside scope.now → Names (resolve_join scope.now kind condition.now) result }
+    ensures { Names (resolve_join scope.now kind condition.now) result }
 {
     match condition {
         None => Ok(Condition::Always),

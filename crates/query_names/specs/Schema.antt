@@ -1,5 +1,5 @@
 -- CREATE and DROP: the database after them, or each of their refusals.
-use Rattle.std.specs.Prelude.{ℕ, suc, Bool, true, false, not, ◌||◌, List, [], ◌∷◌, ◌++◌, map, Option, Some, None, is_some, if◌then◌else◌, codes, filter, filter_map, decimal}
+use Rattle.std.specs.Prelude.{ℕ, suc, Bool, true, false, not, List, [], ◌∷◌, ◌++◌, map, Option, Some, None, is_some, if◌then◌else◌, codes, filter_map, decimal}
 use Rattle.std.specs.FinMap.Entries.{put}
 use Rattle.sqlval.specs.Names.{folded, is_same_name}
 use Rattle.sqlval.specs.Refusals.{NoSuch, Exists, Misuse}
@@ -19,6 +19,7 @@ use Rattle.sql_syntax.specs.declared.statement.ObjectKind.{ObjectKind}
 use Rattle.sql_syntax.specs.declared.statement.ObjectKind.TheVariants as kind
 use Rattle.catalog.specs.Database.{Name, Database, object, with_object, Object, ATable, AnIndex, AView, ATrigger, Table, name_order}
 use Rattle.catalog.specs.Listed.{is_reserved, names_listed}
+use Rattle.catalog.specs.Named.{without}
 use Rattle.query_names.specs.Expressions.{resolve_collation}
 use Rattle.query_names.specs.Checked.{Checked, good, bad, known_map, known_all, ◌and_then◌, unless}
 use Rattle.query_names.specs.Scopes.{table_source, place_of, is_doubled}
@@ -117,18 +118,12 @@ abbrev is_automatic : Object → Bool
 is_automatic (AnIndex i) = i.is_automatic
 is_automatic _ = false
 
--- the object itself, the indexes of a table, and the triggers of a table or a view
-abbrev pub goes_with : Name → Name × Object → Bool
-goes_with n (name, AnIndex i) = is_same_name n name || is_same_name n i.table
-goes_with n (name, ATrigger d) = is_same_name n name || is_same_name n d.target
-goes_with n (name, _) = is_same_name n name
-
--- what DROP of an object of that kind makes, where this object has the name, or none has it
+-- what DROP of an object of that kind makes, where this object has the name, or none has it: all that goes with the name is gone
 abbrev pub dropped : Database → ObjectKind → Name → Option Object → Checked Database
 dropped db kind n None = bad db NoSuch
 dropped db kind n (Some o) =
     if not (is_of kind o) then bad db NoSuch
-    else (unless (is_automatic o) Misuse (good (filter (λ x. not (goes_with n x)) db)))
+    else (unless (is_automatic o) Misuse (good (without n db)))
 
 -- DROP of an object of that kind (SQL As Understood By SQLite, "DROP TABLE", "DROP INDEX", "DROP VIEW", "DROP TRIGGER")
 abbrev pub drop_object : Database → ObjectKind → Name → Checked Database

@@ -20,11 +20,12 @@ abbrev pub source_of : Name → Checked (List ScopeColumn × Bool) → ScopeSour
 source_of n k = record { name = n; columns = (meant k).0; has_rowid = (meant k).1; needs_name = false; is_known = is_good k }
 
 -- NEW and OLD can't be reached where a source of the statement has that name: a column of that name is the source's, or there is none
+abbrev pub reached : List Name → ScopeSource → ScopeSource
+reached names s = if list_any (is_same_name s.name) names then record s { columns = []; has_rowid = false; is_known = true } else s
+
+-- NEW and OLD, as far as they can be reached beside sources of these names
 abbrev pub beside : List ScopeSource → List Name → List ScopeSource
-beside outer names = map shown outer
-  where
-    shown : ScopeSource → ScopeSource
-    shown s = if list_any (is_same_name s.name) names then record s { columns = []; has_rowid = false; is_known = true } else s
+beside outer names = map (reached names) outer
 
 abbrev pub is_named : Name → Option Name → Bool
 is_named n None = false

@@ -6,7 +6,7 @@ ghost use Rattle.catalog.specs.Listed.{as_column};
 ghost use Rattle.query_names.specs.Checked.{known_all};
 ghost use Rattle.query_names.specs.Creating.{checks_known, known_after};
 ghost use Rattle.query_names.specs.Expressions.{resolve};
-ghost use Rattle.query_names.specs.Named.{IsOutside, Names, NamesBy};
+ghost use Rattle.query_names.specs.Named.{Names, NamesBy};
 ghost use Rattle.query_names.specs.Scopes.{table_scope};
 ghost use Rattle.query_names.specs.Tables as meant;
 ghost use Rattle.query_names.specs.Tables.{checks_of, column_check, firsts, table_check, without_rows};
@@ -75,7 +75,7 @@ fn table_check_in(rule: &TableRule) -> Option<&Expr>
 
 /// Looks up the names of a CHECK, after those before it.
 fn push_check(alloc: Global, scope: &[ScopeSource], found: &mut Vec<Term>, tree: &Expr) -> R<()>
-    ensures { IsOutside scope.now → NamesBy (λ done. found.new.items)
+    ensures { NamesBy (λ done. found.new.items)
         (known_after scope.now found.old.items (tree.now ∷ [])) result }
 {
     let term = bind_term(alloc, false, scope, tree)?;
@@ -90,7 +90,7 @@ fn push_of_column(
     found: &mut Vec<Term>,
     rules: &[ColumnRule],
 ) -> R<()>
-    ensures { IsOutside scope.now → NamesBy (λ done. found.new.items)
+    ensures { NamesBy (λ done. found.new.items)
         (known_after scope.now found.old.items (flat_map column_check rules.now)) result }
 {
     'rules: for rule in rules {
@@ -108,7 +108,7 @@ fn push_of_columns(
     found: &mut Vec<Term>,
     columns: &[ColumnDefinition],
 ) -> R<()>
-    ensures { IsOutside scope.now → NamesBy (λ done. found.new.items)
+    ensures { NamesBy (λ done. found.new.items)
         (known_after scope.now found.old.items (flat_map
         (λ c. flat_map column_check c.rules) columns.now)) result }
 {
@@ -125,7 +125,7 @@ fn push_of_table(
     found: &mut Vec<Term>,
     rules: &[TableRule],
 ) -> R<()>
-    ensures { IsOutside scope.now → NamesBy (λ done. found.new.items)
+    ensures { NamesBy (λ done. found.new.items)
         (known_after scope.now found.old.items (flat_map table_check rules.now)) result }
 {
     'rules: for rule in rules {
@@ -138,7 +138,7 @@ fn push_of_table(
 
 /// The CHECKs of a definition, in the order of their text.
 fn checks_found(alloc: Global, scope: &[ScopeSource], definition: &TableDefinition) -> R<Many<Term>>
-    ensures { IsOutside scope.now → Names (known_all
+    ensures { Names (known_all
         (map (resolve false scope.now) (checks_of definition.now))) result }
 {
     let mut found = Vec::new(alloc);

@@ -8,15 +8,16 @@ ghost use Rattle.query_terms.specs.Terms.{terms};
 ghost use Rattle.query_names.specs.Checked.{known_map};
 ghost use Rattle.query_names.specs.Expressions as meant;
 ghost use Rattle.query_names.specs.Expressions.{count_of, resolve, resolve_all};
-ghost use Rattle.query_names.specs.Named.{IsOutside, Names, NamesBy};
+ghost use Rattle.query_names.specs.Named.{Names, NamesBy};
 
 use crate::columns::bind_name;
 use crate::forms::{constant, digits};
 use crate::functions::{call_of, call_of_all, collation_named, function_named, may_hold_totals};
+use crate::outer::bind_raise;
 use crate::scope::ScopeSource;
 use query_terms::{Arithmetic, Comparison, Node, OneSided, Term, TwoSided};
 use sql_syntax::{Expr, Node as Tree, Operator};
-use sqlval::{Fault, Misuse, Name, R, Value};
+use sqlval::{Name, R, Value};
 use std::alloc::Global;
 
 /// What an operator of the grammar is.
@@ -43,12 +44,11 @@ fn operator_of(operator: Operator) -> TwoSided
     }
 }
 
-/// An expression outside a trigger's program, whose names are looked up among these sources; `totals` says whether an aggregate
-/// may stand there.
+/// An expression, whose names are looked up among these sources; `totals` says whether an aggregate may stand there.
 #[cycle(bind_term)]
 #[tactic(auto, using(crate::proofs::PartRefusals::mapped))]
 pub fn bind_term(alloc: Global, totals: bool, scope: &[ScopeSource], tree: &Expr) -> R<Term>
-    ensures { IsOutside scope.now → Names (resolve totals scope.now tree.now) result }
+    ensures { Names (resolve totals scope.now tree.now) result }
 {
     match &tree.node {
         Tree::Null => Ok(constant(Value::Null)),
@@ -71,14 +71,14 @@ pub fn bind_term(alloc: Global, totals: bool, scope: &[ScopeSource], tree: &Expr
         Tree::Collate(inner, name) => bind_collated(alloc, totals, scope, inner, name),
         Tree::Call(name, list) => bind_call(alloc, totals, scope, name, list),
         Tree::CallAll(name) => call_of_all(alloc, totals, name),
-        Tree::Raise(_, _) => Err(Fault::Misuse(Misuse::Raise)),
+        Tree::Raise(action, text) => bind_raise(alloc, scope, *action, text),
     }
 }
 
 /// The same, to stand within another term.
 #[cycle(bind_term)]
 fn bind_boxed(alloc: Global, totals: bool, scope: &[ScopeSource], tree: &Expr) -> R<Box<Term>>
-    ensures { IsOutside scope.now → NamesBy (λ boxed. boxed.value) (resolve totals scope.now tree.now) result }
+    ensures { NamesBy (λ boxed. boxed.value) (resolve totals scope.now tree.now) result }
 {
     let term = bind_term(alloc, totals, scope, tree)?;
     Ok(Box::new(alloc, term)?)
@@ -94,7 +94,7 @@ fn bind_one(
     operator: OneSided,
     operand: &Expr,
 ) -> R<Term>
-    ensures { IsOutside scope.now → Names (known_map (term.One operator)
+    ensures { Names (known_map (term.One operator)
         (resolve totals scope.now operand.now)) result }
 {
     let operand = bind_boxed(alloc, totals, scope, operand)?;
@@ -114,7 +114,7 @@ fn bind_two(
     left: &Expr,
     right: &Expr,
 ) -> R<Term>
-    ensures { IsOutside scope.now → Names (resolve totals scope.now
+    ensures { Names (resolve totals scope.now
         (tree.Binary operator left.now right.now)) result }
 {
     let left = bind_boxed(alloc, totals, scope, left)?;
@@ -134,7 +134,7 @@ fn bind_collated(
     operand: &Expr,
     name: &Name,
 ) -> R<Term>
-    ensures { IsOutside scope.now → Names (resolve totals scope.now
+    ensures { Names (resolve totals scope.now
         (tree.Collate operand.now name.now)) result }
 {
     let collation = collation_named(alloc, name)?;
@@ -156,8 +156,7 @@ fn bind_between(
     low: &Expr,
     high: &Expr,
 ) -> R<Term>
-    ensures { IsOutside scope.now
-        → Names (resolve totals scope.now (tree.Between is_negated operand.now low.now high.now)) result }
+    ensures { Names (resolve totals scope.now (tree.Between is_negated operand.now low.now high.now)) result }
 {
     let operand = bind_boxed(alloc, totals, scope, operand)?;
     let low = bind_boxed(alloc, totals, scope, low)?;
@@ -178,8 +177,7 @@ fn bind_among(
     operand: &Expr,
     list: &[Expr],
 ) -> R<Term>
-    ensures { IsOutside scope.now
-        → Names (resolve totals scope.now (tree.In is_negated operand.now (trees list.now))) result }
+    ensures { Names (resolve totals scope.now (tree.In is_negated operand.now (trees list.now))) result }
 {
     let operand = bind_boxed(alloc, totals, scope, operand)?;
     let list = bind_all(alloc, totals, scope, list)?;
@@ -198,7 +196,7 @@ fn bind_call(
     name: &Name,
     list: &[Expr],
 ) -> R<Term>
-    ensures { IsOutside scope.now → Names (resolve totals scope.now
+    ensures { Names (resolve totals scope.now
         (tree.Call name.now (trees list.now))) result }
 {
     let called = function_named(name);
@@ -210,8 +208,7 @@ fn bind_call(
 #[cycle(bind_term)]
 #[tactic(auto, using(crate::proofs::Trees::item_falls))]
 fn bind_all(alloc: Global, totals: bool, scope: &[ScopeSource], list: &[Expr]) -> R<Vec<Term>>
-    ensures found { IsOutside scope.now
-        → NamesBy (λ found. terms found.items) (resolve_all totals scope.now (trees list.now)) result }
+    ensures found { NamesBy (λ found. terms found.items) (resolve_all totals scope.now (trees list.now)) result }
     ensures counted { IfOk result (λ found. length found.items ≡ count_of (trees list.now)) }
 {
     let mut found = Vec::new(alloc);

@@ -4,6 +4,7 @@
 
 mod checks;
 mod columns;
+mod copying;
 mod definitions;
 mod expressions;
 mod forms;
@@ -11,6 +12,7 @@ mod functions;
 mod inserting;
 mod keys;
 mod names;
+mod outer;
 mod queries;
 mod reading;
 mod scope;
@@ -22,12 +24,14 @@ ghost use Rattle.query_names.specs.Laws.{CalmIsNotRefused, KnowsListed, SourcesA
 use catalog::listed_tables_are_found;
 pub use checks::bind_checks;
 pub use columns::{ambiguous, cell_of};
+pub use copying::{column_copy, source_copy};
 pub use definitions::bind_columns;
 pub use expressions::bind_term;
 pub use functions::collation_named;
 pub use inserting::{BoundInsert, Target, bind_target, has_doubled};
 pub use keys::{BoundKeys, automatic_name, bind_keys};
 pub use names::{find_table, missing};
+pub use outer::shown_beside;
 pub use queries::{BoundSource, Origin};
 pub use reading::{Condition, Reading};
 pub use scope::{ScopeColumn, ScopeSource, folded, scope_column};

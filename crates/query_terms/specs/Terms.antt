@@ -178,7 +178,8 @@ same_two Or Or = true
 same_two Concatenate Concatenate = true
 same_two _ _ = false
 
-abbrev same_raise : RaiseAction → RaiseAction → Bool
+-- the same action of RAISE
+abbrev pub same_raise : RaiseAction → RaiseAction → Bool
 same_raise Abort Abort = true
 same_raise Rollback Rollback = true
 same_raise _ _ = false

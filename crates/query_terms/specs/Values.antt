@@ -256,7 +256,8 @@ and_also v b = truth v then λ t. and_after t b
 abbrev pub or_else : Value → Answer Value → Answer Value
 or_else v b = truth v then λ t. or_after t b
 
-abbrev raised : RaiseAction → List ℕ → Refusal
+-- the refusal that RAISE is (SQL As Understood By SQLite, "CREATE TRIGGER", "The RAISE() function")
+abbrev pub raised : RaiseAction → List ℕ → Refusal
 raised Abort t = Raised t
 raised Rollback t = RaisedRollback t
 

@@ -16,3 +16,4 @@ tree_of (code.Two o a b) = tree.Two o a.value b.value
 tree_of (code.Collate c e) = tree.Collate c e.value
 tree_of (code.In n a es) = tree.In n a.value (terms es.items)
 tree_of (code.Between n a b c) = tree.Between n a.value b.value c.value
+tree_of (code.Raise k t) = tree.Raise k t

@@ -18,6 +18,7 @@ use crate::operands::{
     Sides, Single, aggregated_of, applied_of, beside, calculated_of, compared_of, concatenated_of,
     made, of_holding, of_sameness, sameness_of, stands, truth_of, turned_holding,
 };
+use crate::raising::raised;
 use crate::rows::Env;
 use crate::totals::count_word;
 use crate::tree::{Aggregate, Comparison, Function, Node, OneSided, Term, TwoSided};
@@ -44,6 +45,7 @@ pub fn evaluate<'a>(alloc: Global, term: &'a Term, env: &Env<'a>) -> R<Datum<'a>
         Node::Between(is_negated, operand, low, high) => {
             made(between(alloc, *is_negated, operand, low, high, env))
         }
+        Node::Raise(action, text) => Err(raised(alloc, *action, text)),
     }
 }
 

@@ -9,6 +9,7 @@ mod integers;
 mod numbers;
 mod operands;
 mod places;
+mod raising;
 mod rows;
 mod sameness;
 mod stored;

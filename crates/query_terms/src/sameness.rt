@@ -1,6 +1,7 @@
 //! When two expressions are the same.
 
 ghost use Rattle.std.specs.Prelude.{◌≡◌, ◌==◌};
+ghost use Rattle.std.specs.Cmp.Lexicographic.{pointwise};
 ghost use Rattle.sqlval.specs.Sameness.{is_same_value};
 ghost use Rattle.query_terms.specs.Terms as meant;
 ghost use Rattle.query_terms.specs.Terms.{terms};
@@ -8,7 +9,8 @@ ghost use Rattle.query_terms.specs.Terms.{terms};
 use crate::tree::{
     Aggregate, Arithmetic, Comparison, Function, Node, OneSided, Place, Term, TwoSided,
 };
-use sqlval::{Collation, Value};
+use sql_syntax::RaiseAction;
+use sqlval::{Collation, Text, Value};
 
 /// Whether both are the same expression; columns are told apart by where they stand.
 #[cycle(is_same)]
@@ -42,6 +44,9 @@ pub fn is_same(left: &Term, right: &Term) -> bool
         }
         (Node::Between(is_negated, a, b, e), Node::Between(other, c, d, f)) => {
             same_flag(*is_negated, *other) && is_same(a, c) && is_same(b, d) && is_same(e, f)
+        }
+        (Node::Raise(action, text), Node::Raise(other, words)) => {
+            same_raise(*action, *other) && same_text(text, words)
         }
         _ => false,
     }
@@ -154,6 +159,24 @@ fn same_collation(left: Collation, right: Collation) -> bool
     ensures { result ≡ (meant.collation_index left == meant.collation_index right) }
 {
     left == right
+}
+
+/// Whether both are one action of RAISE.
+fn same_raise(left: RaiseAction, right: RaiseAction) -> bool
+    ensures { result ≡ meant.same_raise left right }
+{
+    match (left, right) {
+        (RaiseAction::Abort, RaiseAction::Abort) => true,
+        (RaiseAction::Rollback, RaiseAction::Rollback) => true,
+        _ => false,
+    }
+}
+
+/// Whether both texts have the same bytes.
+fn same_text(left: &Text, right: &Text) -> bool
+    ensures { result ≡ pointwise ◌==◌ left.now right.now }
+{
+    left.as_str().as_bytes() == right.as_str().as_bytes()
 }
 
 /// Whether NOT is written in both or in neither.

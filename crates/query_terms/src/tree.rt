@@ -1,6 +1,7 @@
 //! Expressions whose names are looked up.
 
-use sqlval::{Affinity, Collation, Value};
+use sql_syntax::RaiseAction;
+use sqlval::{Affinity, Collation, Text, Value};
 use std::marker::Model;
 
 /// What compares two values by their order.
@@ -100,6 +101,8 @@ pub enum Node {
     In(bool, Box<Term>, Vec<Term>),
     /// Whether NOT is written, the operand, the least and the greatest.
     Between(bool, Box<Term>, Box<Term>, Box<Term>),
+    /// RAISE with its text.
+    Raise(RaiseAction, Text),
 }
 
 impl Model for Term {

@@ -15,16 +15,16 @@ use Rattle.sqlval.specs.declared.value.Value.{Value}
 use Rattle.sqlval.specs.declared.value.Value.TheVariants.{Null, Int, Text, Blob}
 use Rattle.catalog.specs.Database as database
 use Rattle.catalog.specs.Database.{Name, Database, Object, ATable, AnIndex, AView, ATrigger, name_order, object, row, with_object, without_row}
-use Rattle.catalog.specs.Laws.{KeepsNoTrigger}
-use Rattle.catalog.specs.Listed.{has_no_trigger, with_rows}
+use Rattle.catalog.specs.Laws.{KeepsTriggers}
+use Rattle.catalog.specs.Listed.{with_rows}
 use Rattle.catalog.specs.Named.{IsNamed, KeepsNamed, OneDatabase}
 use Rattle.catalog.specs.declared.tables.Table.{Table}
 use Rattle.row_scan.specs.Rows.{TableRow}
 use Rattle.std.specs.Prelude.{filter}
 use Rattle.row_change.specs.Agreement.{DeletesRows, DeletesSome, IsStill}
 use Rattle.row_change.specs.Constraints.{table_of}
-use Rattle.row_change.specs.RowChanges.{Fire, delete_row}
-use Rattle.row_change.proofs.Folding.{KeepsTables, put_again, put_there, tables_kept}
+use Rattle.row_change.specs.RowChanges.{Deleting, Fire, delete_row, is_quiet}
+use Rattle.row_change.proofs.Folding.{KeepsQuiet, put_again, put_there, quiet_kept}
 use Rattle.row_change.proofs.Rising.{Climbs, Rises, fit_rows_rise, further}
 
 -- ---- one row
@@ -121,25 +121,25 @@ put_itself one keeps db name t named is = one (with_object db name (ATable t)) d
     same : (other : Name) → object (with_object db name (ATable t)) other ≡ object db other
     same other = find-put name_order nat_list_cmp_total (folded other) (folded name) (ATable t) db ∙ by_test other (eq_by_cmp name_order (folded other) (folded name)) refl
 
-module _ (fire : Fire) (name : Name) (table : Table) (still : IsStill fire) (keeps : KeepsTables) where
+module _ (fire : Fire) (name : Name) (table : Table) (still : IsStill fire) (keeps : KeepsQuiet Deleting name) where
   -- the table with these rows
   abbrev having_rows : Database → List TableRow → Database
   having_rows db rows = with_object db name (ATable (with_rows table rows))
 
-  row_goes : (db : Database) (r : TableRow) (rows : List TableRow) → has_no_trigger db ≡ true → table_of db name ≡ Ok (with_rows table (r ∷ rows)) → Rises (r ∷ rows)
+  row_goes : (db : Database) (r : TableRow) (rows : List TableRow) → is_quiet Deleting db name ≡ true → table_of db name ≡ Ok (with_rows table (r ∷ rows)) → Rises (r ∷ rows)
       → delete_row fire name db r.0 ≡ Ok (having_rows db rows)
   row_goes db r rows only is rises =
       let found : row (with_rows table (r ∷ rows)) r.0 ≡ Some r.1 = found_first r rows in
       let gone : without_row r.0 (with_rows table (r ∷ rows)) ≡ with_rows table rows = ap (with_rows table) (first_gone r rows rises) in
-      let later : has_no_trigger (having_rows db rows) ≡ true = keeps db name (with_rows table rows) only in
+      let later : is_quiet Deleting (having_rows db rows) name ≡ true = keeps db (with_rows table (r ∷ rows)) (with_rows table rows) is only in
       rw (is, found, still, is, found, same_values r.1, gone, still, ◌then◌) refl
 
-  folds : (rows : List TableRow) (db : Database) → has_no_trigger db ≡ true → table_of db name ≡ Ok (with_rows table rows) → Rises rows → having_rows db rows ≡ db
+  folds : (rows : List TableRow) (db : Database) → is_quiet Deleting db name ≡ true → table_of db name ≡ Ok (with_rows table rows) → Rises rows → having_rows db rows ≡ db
       → fold_answer (delete_row fire name) db (map (λ row. row.0) rows) ≡ Ok (having_rows db [])
   folds [] db only is rises there = ap (λ (d : Database). Ok d) (sym there)
   folds (r ∷ rows) db only is rises there =
       ap (λ (a : Answer Database). a then λ b. fold_answer (delete_row fire name) b (map (λ row. row.0) rows)) (row_goes db r rows only is rises)
-      ∙ (folds rows (having_rows db rows) (keeps db name (with_rows table rows) only) (put_there db name (with_rows table rows)) (rest_rises r rows rises) (again rows)
+      ∙ (folds rows (having_rows db rows) (keeps db (with_rows table (r ∷ rows)) (with_rows table rows) is only) (put_there db name (with_rows table rows)) (rest_rises r rows rises) (again rows)
       ∙ ap (λ (d : Database). Ok d) (again []))
     where
       again : (more : List TableRow) → having_rows (having_rows db rows) more ≡ having_rows db more
@@ -147,12 +147,12 @@ module _ (fire : Fire) (name : Name) (table : Table) (still : IsStill fire) (kee
 
   -- ---- some rows
 
-  row_leaves : (db : Database) (kept : List TableRow) (r : TableRow) (rows : List TableRow) → has_no_trigger db ≡ true → table_of db name ≡ Ok (with_rows table (kept ++ (r ∷ rows))) → Rises (kept ++ (r ∷ rows))
+  row_leaves : (db : Database) (kept : List TableRow) (r : TableRow) (rows : List TableRow) → is_quiet Deleting db name ≡ true → table_of db name ≡ Ok (with_rows table (kept ++ (r ∷ rows))) → Rises (kept ++ (r ∷ rows))
       → delete_row fire name db r.0 ≡ Ok (having_rows db (kept ++ rows))
   row_leaves db kept r rows only is rises =
       let found : row (with_rows table (kept ++ (r ∷ rows))) r.0 ≡ Some r.1 = found_behind kept r rows rises in
       let gone : without_row r.0 (with_rows table (kept ++ (r ∷ rows))) ≡ with_rows table (kept ++ rows) = ap (with_rows table) (gone_behind kept r rows rises) in
-      let later : has_no_trigger (having_rows db (kept ++ rows)) ≡ true = keeps db name (with_rows table (kept ++ rows)) only in
+      let later : is_quiet Deleting (having_rows db (kept ++ rows)) name ≡ true = keeps db (with_rows table (kept ++ (r ∷ rows))) (with_rows table (kept ++ rows)) is only in
       rw (is, found, still, is, found, same_values r.1, gone, still, ◌then◌) refl
 
   module _ (gone : TableRow → Bool) where
@@ -162,7 +162,7 @@ module _ (fire : Fire) (name : Name) (table : Table) (still : IsStill fire) (kee
     abbrev Folded : Database → List TableRow → List TableRow → Type 0
     Folded db kept rows = fold_answer (delete_row fire name) db (map (λ row. row.0) (filter gone rows)) ≡ Ok (having_rows db (kept ++ filter stays rows))
 
-    folds_some : (rows : List TableRow) (kept : List TableRow) (db : Database) → has_no_trigger db ≡ true → table_of db name ≡ Ok (with_rows table (kept ++ rows)) → Rises (kept ++ rows) → having_rows db (kept ++ rows) ≡ db
+    folds_some : (rows : List TableRow) (kept : List TableRow) (db : Database) → is_quiet Deleting db name ≡ true → table_of db name ≡ Ok (with_rows table (kept ++ rows)) → Rises (kept ++ rows) → having_rows db (kept ++ rows) ≡ db
         → Folded db kept rows
     folds_some [] kept db only is rises there = ap (λ (d : Database). Ok d) (sym there)
     folds_some (r ∷ rows) kept db only is rises there = by_test (λ now there_now. folds_some rows now there_now) (gone r) refl
@@ -173,12 +173,12 @@ module _ (fire : Fire) (name : Name) (table : Table) (still : IsStill fire) (kee
         joined : (after : List TableRow) → (kept ++ (r ∷ [])) ++ after ≡ kept ++ (r ∷ after)
         joined after = append_assoc kept (r ∷ []) after
 
-        by_test : ((now : List TableRow) (d : Database) → has_no_trigger d ≡ true → table_of d name ≡ Ok (with_rows table (now ++ rows)) → Rises (now ++ rows) → having_rows d (now ++ rows) ≡ d → Folded d now rows)
+        by_test : ((now : List TableRow) (d : Database) → is_quiet Deleting d name ≡ true → table_of d name ≡ Ok (with_rows table (now ++ rows)) → Rises (now ++ rows) → having_rows d (now ++ rows) ≡ d → Folded d now rows)
             → (test : Bool) → gone r ≡ test → Folded db kept (r ∷ rows)
         by_test on true it =
             rw (it)
             (ap (λ (a : Answer Database). a then λ b. fold_answer (delete_row fire name) b (map (λ row. row.0) (filter gone rows))) (row_leaves db kept r rows only is rises)
-            ∙ (on kept (having_rows db (kept ++ rows)) (keeps db name (with_rows table (kept ++ rows)) only) (put_there db name (with_rows table (kept ++ rows))) (rise_still kept r rows rises) (again (kept ++ rows))
+            ∙ (on kept (having_rows db (kept ++ rows)) (keeps db (with_rows table (kept ++ (r ∷ rows))) (with_rows table (kept ++ rows)) is only) (put_there db name (with_rows table (kept ++ rows))) (rise_still kept r rows rises) (again (kept ++ rows))
             ∙ ap (λ (d : Database). Ok d) (again (kept ++ filter stays rows))))
         by_test on false it =
             rw (it)
@@ -186,10 +186,10 @@ module _ (fire : Fire) (name : Name) (table : Table) (still : IsStill fire) (kee
             (subst (λ (l : List TableRow). having_rows db l ≡ db) (sym (joined rows)) there)
             ∙ ap (λ (l : List TableRow). Ok (having_rows db l)) (joined (filter stays rows)))
 
-pub deletes_some : KeepsNoTrigger → OneDatabase → KeepsNamed → DeletesSome
+pub deletes_some : KeepsTriggers → OneDatabase → KeepsNamed → DeletesSome
 deletes_some keeps one named fire name db table rows gone still only in_order is fit =
-    folds_some fire name table still (tables_kept keeps) gone rows [] db only is (fit_rows_rise (with_rows table rows) fit) (put_itself one named db name (with_rows table rows) in_order is)
+    folds_some fire name table still (quiet_kept keeps Deleting name) gone rows [] db only is (fit_rows_rise (with_rows table rows) fit) (put_itself one named db name (with_rows table rows) in_order is)
 
-pub deletes_rows : KeepsNoTrigger → OneDatabase → KeepsNamed → DeletesRows
+pub deletes_rows : KeepsTriggers → OneDatabase → KeepsNamed → DeletesRows
 deletes_rows keeps one named fire name db table rows still only in_order is fit =
-    folds fire name table still (tables_kept keeps) rows db only is (fit_rows_rise (with_rows table rows) fit) (put_itself one named db name (with_rows table rows) in_order is)
+    folds fire name table still (quiet_kept keeps Deleting name) rows db only is (fit_rows_rise (with_rows table rows) fit) (put_itself one named db name (with_rows table rows) in_order is)

@@ -1,6 +1,7 @@
 -- An INSERT of rows into a listed table, row by row.
 use Rattle.std.proofs.Common.{◌≡◌, refl, sym, ap, ◌∙◌, ℕ, suc, ◌≤◌, ℤ, Bool, true, false, if◌then◌else◌, cond, List, [], ◌∷◌, Option, None, Some, Ok, Err, map, length, arith}
-use Rattle.std.specs.Prelude.{zip, All, is_none, slice_get, slice_set, unwrap_or}
+use Rattle.std.specs.List.{list_any}
+use Rattle.std.specs.Prelude.{not, zip, All, is_none, slice_get, slice_set, unwrap_or}
 use Rattle.std.specs.Cmp.{tied_itself}
 use Rattle.std.specs.FinMap.Entries.{put, find, find-put, by_order}
 use Rattle.std.specs.Ordering.{int_cmp, is_eq}
@@ -11,29 +12,47 @@ use Rattle.sqlval.specs.Names.{folded}
 use Rattle.sqlval.specs.Refusals.{Answer, ◌then◌, NoSuch, fold_answer}
 use Rattle.sqlval.specs.declared.value.Value.{Value}
 use Rattle.sqlval.specs.declared.value.Value.TheVariants.{Null, Int, Text, Blob}
+use Rattle.sql_syntax.specs.declared.create.TriggerDefinition.{TriggerDefinition}
 use Rattle.catalog.specs.Database as database
-use Rattle.catalog.specs.Database.{Name, Database, Object, ATable, object, with_object, name_order}
-use Rattle.catalog.specs.Laws.{KeepsNoTrigger}
-use Rattle.catalog.specs.Listed.{with_rows, as_column, has_no_trigger, own_column}
+use Rattle.catalog.specs.Database.{Name, Database, Object, ATable, AnIndex, AView, ATrigger, object, with_object, name_order}
+use Rattle.catalog.specs.Laws.{KeepsTriggers}
+use Rattle.catalog.specs.Listed.{with_rows, as_column, own_column}
 use Rattle.catalog.specs.declared.tables.Table.{Table}
 use Rattle.row_scan.specs.Rows.{TableRow}
 use Rattle.row_change.specs.Agreement.{HasIndexesOf, InsertsRows, IsSetFor, IsStill}
 use Rattle.row_change.specs.Constraints.{can_be_stored, checks_hold, default_values, given_rowid, new_rowid, next_rowid, not_null_holds, row_of, set_values, stored, table_of, with_affinity, with_rowid}
 use Rattle.row_change.specs.Demands.{admitted, demanded, is_alone}
 use Rattle.row_change.specs.Inserting.{own_value, row_stored, rowid_after, rowid_given, row_added, rows_inserted, last_rowid, with_own_value}
-use Rattle.row_change.specs.RowChanges.{Fire, insert_row}
+use Rattle.row_change.specs.RowChanges.{Event, Fire, Inserting, insert_row, is_quiet, is_set_off}
 use Rattle.row_change.proofs.Alone.{alone_is, indexes_stay}
 use Rattle.row_change.proofs.Placed.{rises_put}
 use Rattle.row_change.proofs.Rising.{Rises, fit_rows_rise, greatest_is_last, next_for, next_is}
 
 -- ---- a table in a database
 
--- a table in place of another keeps a database plain
-abbrev pub KeepsTables : Type 0
-KeepsTables = (db : Database) (name : Name) (table : database.Table) → has_no_trigger db ≡ true → has_no_trigger (with_object db name (ATable table)) ≡ true
+-- with another table in place of a table, an event at it that sets nothing off sets nothing off still
+abbrev pub KeepsQuiet : Event → Name → Type 0
+KeepsQuiet event name = (db : Database) (old new : database.Table) → table_of db name ≡ Ok old → is_quiet event db name ≡ true → is_quiet event (with_object db name (ATable new)) name ≡ true
 
-pub tables_kept : KeepsNoTrigger → KeepsTables
-tables_kept keeps db name table only = keeps db name (ATable table) only refl
+abbrev table_in : Option Object → Answer database.Table
+table_in o = elim o [ Some (ATable t) ↦ Ok t | _ ↦ Err NoSuch ]
+
+abbrev one_table : database.Table → Answer database.Table
+one_table t = Ok t
+
+same_table : (a b : database.Table) → one_table a ≡ one_table b → a ≡ b
+same_table a b e = cc
+
+pub is_there : (o : Option Object) (t : database.Table) → table_in o ≡ Ok t → o ≡ Some (ATable t)
+is_there (Some (ATable u)) t e = ap (λ x. Some (ATable x)) (same_table u t e)
+is_there (Some (AnIndex i)) t e = absurd cc
+is_there (Some (AView v)) t e = absurd cc
+is_there (Some (ATrigger g)) t e = absurd cc
+is_there None t e = absurd cc
+
+pub quiet_kept : KeepsTriggers → (event : Event) (name : Name) → KeepsQuiet event name
+quiet_kept keeps event name db old new is quiet =
+    ap (λ (ts : List (Name × TriggerDefinition)). not (list_any (λ t. is_set_off t.1.event event) ts)) (keeps db name old new name (is_there (object db name) old is)) ∙ quiet
 
 next_of : (table : Table) (rows : List TableRow) → Rises rows → next_rowid (with_rows table rows) ≡ rowid_after (last_rowid rows)
 next_of table rows rises = ap next_for (greatest_is_last rows rises) ∙ next_is (last_rowid rows)
@@ -99,7 +118,7 @@ put_again k x y (e ∷ es) = by_place (put_again k x y es) (name_order k e.0) re
 
 -- ---- one row
 
-module _ (fire : Fire) (name : Name) (places : List ℕ) (table : Table) (by_column : List (Option ℕ)) (still : IsStill fire) (keeps : KeepsTables) where
+module _ (fire : Fire) (name : Name) (places : List ℕ) (table : Table) (by_column : List (Option ℕ)) (still : IsStill fire) (keeps : KeepsQuiet Inserting name) where
   -- the table with these rows
   abbrev having_rows : Database → List TableRow → Database
   having_rows db rows = with_object db name (ATable (with_rows table rows))
@@ -118,7 +137,7 @@ module _ (fire : Fire) (name : Name) (places : List ℕ) (table : Table) (by_col
   then_all (Ok x) f g = refl
   then_all (Err r) f g = refl
 
-  row_changes : (db : Database) (rows : List TableRow) (given : List Value) → has_no_trigger db ≡ true → HasIndexesOf db name table → table_of db name ≡ Ok (with_rows table rows) → Rises rows
+  row_changes : (db : Database) (rows : List TableRow) (given : List Value) → is_quiet Inserting db name ≡ true → HasIndexesOf db name table → table_of db name ≡ Ok (with_rows table rows) → Rises rows
       → IsSetFor table by_column places given → insert_row fire name places db given ≡ with_one db rows (admitted_to rows given)
   row_changes db rows given only has is rises set = by_values (row_stored table.columns by_column given) refl
     where
@@ -145,7 +164,7 @@ module _ (fire : Fire) (name : Name) (places : List ℕ) (table : Table) (by_col
           let next : new_rowid (with_rows table rows) (given_rowid (with_rows table rows) values) ≡ Ok rowid = ap (new_rowid (with_rows table rows)) (given_is table rows values) ∙ (new_is table rows (own_value own values) rises ∙ h) in
           let there : stored db name (with_rows table rows) rowid (with_rowid (with_rows table rows) rowid values) ≡ Ok (having_rows db (put int_cmp row.0 row.1 rows)) =
           stored_so rowid values ∙ ap (with_one db rows) k in
-          let later : has_no_trigger (having_rows db (put int_cmp row.0 row.1 rows)) ≡ true = keeps db name (with_rows table (put int_cmp row.0 row.1 rows)) only in
+          let later : is_quiet Inserting (having_rows db (put int_cmp row.0 row.1 rows)) name ≡ true = keeps db (with_rows table rows) (with_rows table (put int_cmp row.0 row.1 rows)) is only in
           rw (is, stored_is, e, still, is, next, there, still, h, k) refl
       by_admitted values rowid e h (Err r) k =
           let next : new_rowid (with_rows table rows) (given_rowid (with_rows table rows) values) ≡ Ok rowid = ap (new_rowid (with_rows table rows)) (given_is table rows values) ∙ (new_is table rows (own_value own values) rises ∙ h) in
@@ -203,24 +222,24 @@ module _ (fire : Fire) (name : Name) (places : List ℕ) (table : Table) (by_col
           (one_inserted rows given rest ∙ ap (λ (a : Answer TableRow). a then λ row. rows_inserted table by_column (put int_cmp row.0 row.1 rows) rest) e))
 
   -- row by row, where the table already is in the database
-  folds : (given : List (List Value)) (db : Database) (rows : List TableRow) → has_no_trigger db ≡ true → HasIndexesOf db name table → table_of db name ≡ Ok (with_rows table rows) → Rises rows
+  folds : (given : List (List Value)) (db : Database) (rows : List TableRow) → is_quiet Inserting db name ≡ true → HasIndexesOf db name table → table_of db name ≡ Ok (with_rows table rows) → Rises rows
       → All (IsSetFor table by_column places) given → having_rows db rows ≡ db → fold_answer (insert_row fire name places) db given ≡ changed db rows given
   folds [] db rows only has is rises set there = ap (λ (d : Database). Ok d) (sym there)
   folds (g ∷ given) db rows only has is rises set there =
       one_then db rows g given (row_changes db rows g only has is rises (set 0 g (omega arith)))
-      (λ row e. folds given (having_rows db (put int_cmp row.0 row.1 rows)) (put int_cmp row.0 row.1 rows) (keeps db name (with_rows table (put int_cmp row.0 row.1 rows)) only)
+      (λ row e. folds given (having_rows db (put int_cmp row.0 row.1 rows)) (put int_cmp row.0 row.1 rows) (keeps db (with_rows table rows) (with_rows table (put int_cmp row.0 row.1 rows)) is only)
       (indexes_stay db name table (with_rows table rows) (with_rows table (put int_cmp row.0 row.1 rows)) is has) (put_there db name (with_rows table (put int_cmp row.0 row.1 rows))) (rises_put row.0 row.1 rows rises)
       (λ k d lt. set (suc k) d (omega (arith, lt))) (put_again (folded name) (ATable (with_rows table (put int_cmp row.0 row.1 rows))) (ATable (with_rows table (put int_cmp row.0 row.1 rows))) db))
 
-  some_rows : (given : List (List Value)) (db : Database) (rows : List TableRow) → has_no_trigger db ≡ true → HasIndexesOf db name table → table_of db name ≡ Ok (with_rows table rows) → Rises rows
+  some_rows : (given : List (List Value)) (db : Database) (rows : List TableRow) → is_quiet Inserting db name ≡ true → HasIndexesOf db name table → table_of db name ≡ Ok (with_rows table rows) → Rises rows
       → All (IsSetFor table by_column places) given → 1 ≤ length given → fold_answer (insert_row fire name places) db given ≡ changed db rows given
   some_rows [] db rows only has is rises set some = absurd (omega (arith, some))
   some_rows (g ∷ given) db rows only has is rises set some =
       one_then db rows g given (row_changes db rows g only has is rises (set 0 g (omega arith)))
-      (λ row e. folds given (having_rows db (put int_cmp row.0 row.1 rows)) (put int_cmp row.0 row.1 rows) (keeps db name (with_rows table (put int_cmp row.0 row.1 rows)) only)
+      (λ row e. folds given (having_rows db (put int_cmp row.0 row.1 rows)) (put int_cmp row.0 row.1 rows) (keeps db (with_rows table rows) (with_rows table (put int_cmp row.0 row.1 rows)) is only)
       (indexes_stay db name table (with_rows table rows) (with_rows table (put int_cmp row.0 row.1 rows)) is has) (put_there db name (with_rows table (put int_cmp row.0 row.1 rows))) (rises_put row.0 row.1 rows rises)
       (λ k d lt. set (suc k) d (omega (arith, lt))) (put_again (folded name) (ATable (with_rows table (put int_cmp row.0 row.1 rows))) (ATable (with_rows table (put int_cmp row.0 row.1 rows))) db))
 
-pub inserts_rows : KeepsNoTrigger → InsertsRows
+pub inserts_rows : KeepsTriggers → InsertsRows
 inserts_rows keeps fire name places db table by_column rows given still only has is fit set some =
-    some_rows fire name places table by_column still (tables_kept keeps) given db rows only has is (fit_rows_rise (with_rows table rows) fit) set some
+    some_rows fire name places table by_column still (quiet_kept keeps Inserting name) given db rows only has is (fit_rows_rise (with_rows table rows) fit) set some

@@ -11,8 +11,8 @@ use Rattle.sqlval.specs.Refusals.{Answer, ◌then◌, RowidMismatch, all_answers
 use Rattle.sqlval.specs.declared.value.Value.{Value}
 use Rattle.sqlval.specs.declared.value.Value.TheVariants.{Null, Int}
 use Rattle.catalog.specs.Database.{Name, Database, ATable, row, with_object, without_row}
-use Rattle.catalog.specs.Laws.{KeepsNoTrigger}
-use Rattle.catalog.specs.Listed.{has_no_trigger, own_column, with_rows, as_column}
+use Rattle.catalog.specs.Laws.{KeepsTriggers}
+use Rattle.catalog.specs.Listed.{own_column, with_rows, as_column}
 use Rattle.catalog.specs.Named.{KeepsNamed, OneDatabase}
 use Rattle.catalog.specs.Rows.{are_rows, holds_rowid, is_row}
 use Rattle.catalog.specs.declared.tables.Table.{Table}
@@ -22,7 +22,7 @@ use Rattle.row_change.specs.Agreement.{HasIndexesOf, IsStill, SetsAsEach, Update
 use Rattle.row_change.specs.Changes.{no_outer}
 use Rattle.row_change.specs.Constraints.{set_values, stored, table_of, updated_rowid, with_affinity}
 use Rattle.row_change.specs.Demands.{admitted, demanded, is_alone}
-use Rattle.row_change.specs.RowChanges.{Fire, update_row}
+use Rattle.row_change.specs.RowChanges.{Fire, Updating, is_quiet, update_row}
 use Rattle.query_names.specs.Readings.{env_of, values}
 use Rattle.row_scan.specs.Sources.{as_source}
 use Rattle.row_change.specs.NewRows.{all_hold}
@@ -30,7 +30,7 @@ use Rattle.row_change.specs.Setting.{keeps_rowids, row_set, rowid_left, rows_bes
 use Rattle.row_change.specs.Choosing.{is_chosen, tested}
 use Rattle.row_change.proofs.Alone.{free_alone, indexes_stay}
 use Rattle.row_change.proofs.Deletions.{climbs_over, found_behind, gone_behind, put_itself, rest_rises, same_values}
-use Rattle.row_change.proofs.Folding.{KeepsTables, put_again, put_there, stored_as, tables_kept}
+use Rattle.row_change.proofs.Folding.{KeepsQuiet, put_again, put_there, quiet_kept, stored_as}
 use Rattle.row_change.proofs.Placed.{AreThere, is_admitted, lower, others_there, raised, rises_filter}
 use Rattle.row_change.proofs.KeptRowids.{all_held}
 use Rattle.row_change.proofs.Replaced.{set_keeps}
@@ -106,7 +106,7 @@ turned_one table sets kept r rows olds stays holds rises = by (row_set table set
 
 -- ---- some rows
 
-module _ (fire : Fire) (name : Name) (table : Table) (sets : List (ℕ × Term)) (set : List Name) (still : IsStill fire) (keeps : KeepsTables) where
+module _ (fire : Fire) (name : Name) (table : Table) (sets : List (ℕ × Term)) (set : List Name) (still : IsStill fire) (keeps : KeepsQuiet (Updating set) name) where
   -- the table with these rows
   abbrev having_rows : Database → List TableRow → Database
   having_rows db rows = with_object db name (ATable (with_rows table rows))
@@ -131,7 +131,7 @@ module _ (fire : Fire) (name : Name) (table : Table) (sets : List (ℕ × Term))
       by None = refl
       by (Some i) = refl
 
-  row_updates : (db : Database) (now : List TableRow) (old : TableRow) → has_no_trigger db ≡ true → HasIndexesOf db name table → table_of db name ≡ Ok (with_rows table now)
+  row_updates : (db : Database) (now : List TableRow) (old : TableRow) → is_quiet (Updating set) db name ≡ true → HasIndexesOf db name table → table_of db name ≡ Ok (with_rows table now)
       → find int_cmp old.0 now ≡ Some old.1 → update_row fire no_outer name sets set db old.0 ≡ with_turned db now old (turned now old)
   row_updates db now old only has is found = by_given (values_over old) refl
     where
@@ -154,7 +154,7 @@ module _ (fire : Fire) (name : Name) (table : Table) (sets : List (ℕ × Term))
       by_demands given vs rowid e h l (Ok new) k =
           let back = stored_so rowid vs (Ok new) k in
           let left : updated_rowid (with_rows table now) old.0 vs ≡ Ok rowid = rowid_is now old.0 vs ∙ l in
-          let later : has_no_trigger (having_rows db (put int_cmp new.0 new.1 (rows_beside old.0 now))) ≡ true = keeps db name (with_rows table (put int_cmp new.0 new.1 (rows_beside old.0 now))) only in
+          let later : is_quiet (Updating set) (having_rows db (put int_cmp new.0 new.1 (rows_beside old.0 now))) name ≡ true = keeps db (with_rows table now) (with_rows table (put int_cmp new.0 new.1 (rows_beside old.0 now))) is only in
           rw (is, there, e, h, still, is, there, same_values old.1, left, back, still, k, ◌then◌) refl
       by_demands given vs rowid e h l (Err f) k =
           let back = stored_so rowid vs (Err f) k in
@@ -203,14 +203,14 @@ module _ (fire : Fire) (name : Name) (table : Table) (sets : List (ℕ × Term))
   same_database db before (Ok now) = ap (λ (d : Database). Ok d) (put_again (folded name) (ATable (with_rows table before)) (ATable (with_rows table now)) db)
   same_database db before (Err f) = refl
 
-  folds_some : (olds : List TableRow) (now : List TableRow) (db : Database) → has_no_trigger db ≡ true → HasIndexesOf db name table → table_of db name ≡ Ok (with_rows table now)
+  folds_some : (olds : List TableRow) (now : List TableRow) (db : Database) → is_quiet (Updating set) db name ≡ true → HasIndexesOf db name table → table_of db name ≡ Ok (with_rows table now)
       → Rises olds → AreThere now olds → having_rows db now ≡ db → Folded db now olds
   folds_some [] now db only has is rises there same = ap (λ (d : Database). Ok d) (sym same)
   folds_some (old ∷ olds) now db only has is rises there same =
       by_row (λ before d. folds_some olds before d) (turned now old) refl
     where
       Goes : Type 0
-      Goes = (before : List TableRow) (d : Database) → has_no_trigger d ≡ true → HasIndexesOf d name table → table_of d name ≡ Ok (with_rows table before)
+      Goes = (before : List TableRow) (d : Database) → is_quiet (Updating set) d name ≡ true → HasIndexesOf d name table → table_of d name ≡ Ok (with_rows table before)
           → Rises olds → AreThere before olds → having_rows d before ≡ d → Folded d before olds
 
       by_row : Goes → (a : Answer TableRow) → turned now old ≡ a → Folded db now (old ∷ olds)
@@ -218,7 +218,7 @@ module _ (fire : Fire) (name : Name) (table : Table) (sets : List (ℕ × Term))
           let before : List TableRow = put int_cmp new.0 new.1 (rows_beside old.0 now) in
           let first : update_row fire no_outer name sets set db old.0 ≡ Ok (having_rows db before) = row_updates db now old only has is there.0 ∙ ap (with_turned db now old) e in
           ap (λ (a : Answer Database). a then λ b. fold_answer (update_row fire no_outer name sets set) b (map (λ row. row.0) olds)) first
-          ∙ (on before (having_rows db before) (keeps db name (with_rows table before) only)
+          ∙ (on before (having_rows db before) (keeps db (with_rows table now) (with_rows table before) is only)
           (indexes_stay db name table (with_rows table now) (with_rows table before) is has) (put_there db name (with_rows table before))
           (raised old.0 olds rises) (others_there old new now olds rises (turned_free now old new e) there.1)
           (put_again (folded name) (ATable (with_rows table before)) (ATable (with_rows table before)) db)
@@ -242,10 +242,10 @@ some_there p kept (r ∷ rows) rises =
     by rest true = (found_behind kept r rows rises, rest)
     by rest false = rest
 
-pub updates_some : KeepsNoTrigger → OneDatabase → KeepsNamed → UpdatesSome
+pub updates_some : KeepsTriggers → OneDatabase → KeepsNamed → UpdatesSome
 updates_some keeps one named fire name db table rows sets set is_meant still only in_order has is fit =
     let rises = fit_rows_rise (with_rows table rows) fit in
-    folds_some fire name table sets set still (tables_kept keeps) (filter is_meant rows) rows db only has is (rises_filter is_meant rows rises) (some_there is_meant [] rows rises)
+    folds_some fire name table sets set still (quiet_kept keeps (Updating set) name) (filter is_meant rows) rows db only has is (rises_filter is_meant rows rises) (some_there is_meant [] rows rises)
     (put_itself one named db name (with_rows table rows) in_order is)
 
 -- ---- without a UNIQUE index

@@ -1,12 +1,16 @@
 -- INSERT, UPDATE and DELETE at one row of a table, with the triggers around it (SQL As Understood By SQLite, "CREATE TRIGGER", "Syntax And Examples").
-use Rattle.std.specs.Prelude.{ℕ, Bool, true, false, List, [], ◌∷◌, ◌++◌, map, ℤ, Option, Some, None, Ok, zip}
+use Rattle.std.specs.Prelude.{ℕ, Bool, true, false, not, List, [], ◌∷◌, ◌++◌, map, ℤ, Option, Some, None, Ok, zip}
 use Rattle.std.specs.Cmp.Lexicographic.{pointwise}
+use Rattle.std.specs.List.{list_any}
+use Rattle.sqlval.specs.Names.{is_same_name}
 use Rattle.sqlval.specs.Refusals.{Answer, ◌then◌, RowChangedBefore}
 use Rattle.sqlval.specs.Sameness.{is_same_value}
 use Rattle.sqlval.specs.declared.value.Value.{Value}
+use Rattle.sql_syntax.specs.declared.create.TriggerEvent.{TriggerEvent}
+use Rattle.sql_syntax.specs.declared.create.TriggerEvent.TheVariants.{Insert, Delete, Update}
 use Rattle.sql_syntax.specs.declared.create.TriggerTime.{TriggerTime}
 use Rattle.sql_syntax.specs.declared.create.TriggerTime.TheVariants.{Before, After}
-use Rattle.catalog.specs.Database.{Name, Database, with_object, ATable, Table, row, without_row}
+use Rattle.catalog.specs.Database.{Name, Database, with_object, ATable, Table, row, triggers_of, without_row}
 use Rattle.query_names.specs.Readings.{env_of, values}
 use Rattle.query_names.specs.Scopes.{table_scope}
 use Rattle.query_names.specs.declared.scope.ScopeColumn.{ScopeColumn}
@@ -19,6 +23,18 @@ use Rattle.row_change.specs.Constraints.{table_of, with_affinity, given_rowid, s
 pub data Event : Type 0 where
   Inserting Deleting : Event
   Updating : List Name → Event
+
+-- UPDATE OF is set off where SET names one of its columns
+abbrev pub is_set_off : TriggerEvent → Event → Bool
+is_set_off Insert Inserting = true
+is_set_off Delete Deleting = true
+is_set_off (Update None) (Updating set) = true
+is_set_off (Update (Some ns)) (Updating set) = list_any (λ n. list_any (is_same_name n) set) ns
+is_set_off _ _ = false
+
+-- the event sets no trigger of that table or view off, of whatever time
+abbrev pub is_quiet : Event → Database → Name → Bool
+is_quiet event db target = not (list_any (λ t. is_set_off t.1.event event) (triggers_of db target))
 
 -- an event at one row of a table or view: NEW and OLD as they are there
 pub record Firing : Type 0 where

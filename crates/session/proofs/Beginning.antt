@@ -20,6 +20,7 @@ use Rattle.pager.specs.Marks.{Changes}
 use Rattle.pager.specs.Views.{ViewHas, IsViewPage, View, newest_view, view_at, view_of}
 use Rattle.pager.specs.Writers.{IsBegun, seen, snapshot_of}
 use Rattle.pager.specs.declared.writer.Writer.{Writer}
+use Rattle.session.specs.Endings.{as_answered, once_answered}
 use Rattle.session.specs.Supported.{StepSoFar}
 use Rattle.session.specs.ConnectionState.{files_of}
 use Rattle.session.specs.Machine.{Machine, Connection, Idle, Rows, Refused, Writes, another, is_writing, last_place, newest, with_connection}
@@ -92,7 +93,7 @@ module _ {D : Type 0} {g : Ghosts D} where
   pub begin_busy : (c : Connections D g) → is_idle c.transaction ≡ true → list_any holds_writer c.parked.items ≡ true → StepsOn c (statement.Begin begins.Immediate) (Refused refusal.Busy) c
   begin_busy c idle busy m shown = record {
     next = m;
-    step = by_outcome m c.connection (statement.Begin begins.Immediate) refl shown.running shown.numbered (RefusedBy (refusal.Busy ∷ [])) (Refused refusal.Busy) m
+    step = by_outcome m c.connection (statement.Begin begins.Immediate) shown.running shown.numbered (RefusedBy (refusal.Busy ∷ [])) (Refused refusal.Busy) m
         (immediate_outcome c m shown idle ∙ busy_begin m c.connection (sym (busy_so (files_of c) m.history c.parked.items (slice_set m.connections (c.connection - 1) Idle) shown.parked) ∙ busy))
         (refusal.Busy, (0, omega arith, refl), refl, refl);
     shown = inr shown;
@@ -130,7 +131,7 @@ module _ {D : Type 0} {g : Ghosts D} where
       let base = newest_listed old m shown (may.newest (no_snapshot_idle old.transaction idle)) in
       record {
         next = next;
-        step = by_outcome m old.connection (statement.Begin begins.Immediate) refl shown.running shown.numbered (Gives [] next) (Rows []) next (free_outcome old m shown idle may) (refl, refl);
+        step = by_outcome m old.connection (statement.Begin begins.Immediate) shown.running shown.numbered (Gives [] next) (Rows []) next (free_outcome old m shown idle may) (refl, refl);
         shown = inr (moved old new m (begun_as begins.Immediate m) shown start.files start.beside (inr (free_of old m shown may.free))
             (subst (λ (t : Transaction). IsTransaction (files_of new) new.catalog m.history t (begun_as begins.Immediate m)) (sym start.now) (record {
               db = newest m;
@@ -161,11 +162,11 @@ module _ {D : Type 0} {g : Ghosts D} where
       outcome_is : outcome m old.connection (statement.Begin begins.Immediate) ≡ Gives [] (with_connection m old.connection (begun_as begins.Immediate m))
       outcome_is = free_outcome old m shown idle may
 
-      by_why : (f ≡ fault.Memory) ⊎ (f ≡ fault.Io) → StepSoFar m old.connection (statement.Begin begins.Immediate) (Refused (refusal_of f)) m
-      by_why (inl memory) = subst (λ (e : Fault). StepSoFar m old.connection (statement.Begin begins.Immediate) (Refused (refusal_of e)) m) (sym memory)
-          (instead m old.connection (statement.Begin begins.Immediate) refl shown.running shown.numbered _ (Refused refusal.Memory) outcome_is (inl refl, refl))
-      by_why (inr io) = subst (λ (e : Fault). StepSoFar m old.connection (statement.Begin begins.Immediate) (Refused (refusal_of e)) m) (sym io)
-          (instead m old.connection (statement.Begin begins.Immediate) refl shown.running shown.numbered _ (Refused refusal.Io) outcome_is (inr (refl, refl), refl))
+      by_why : (f ≡ fault.Memory) ⊎ (f ≡ fault.Io) → StepSoFar m old.connection (statement.Begin begins.Immediate) (as_answered (Refused (refusal_of f))) (once_answered m new.connection (Refused (refusal_of f)))
+      by_why (inl memory) = subst (λ (e : Fault). StepSoFar m old.connection (statement.Begin begins.Immediate) (as_answered (Refused (refusal_of e))) (once_answered m new.connection (Refused (refusal_of e)))) (sym memory)
+          (instead m old.connection (statement.Begin begins.Immediate) shown.running shown.numbered _ (Refused refusal.Memory) outcome_is (inl refl, refl))
+      by_why (inr io) = subst (λ (e : Fault). StepSoFar m old.connection (statement.Begin begins.Immediate) (as_answered (Refused (refusal_of e))) (once_answered m new.connection (Refused (refusal_of e)))) (sym io)
+          (instead m old.connection (statement.Begin begins.Immediate) shown.running shown.numbered _ (Refused refusal.Io) outcome_is (inr (refl, refl), refl))
 
 pub done_refused : (result : Result ⊤ Fault) (f : Fault) → IsErrAnd result (λ e. e ≡ f) → done_reply result ≡ Refused (refusal_of f)
 done_refused (Ok x) f is = absurd is

@@ -1,9 +1,9 @@
 -- A step of one connection leaves the others as they were.
-use Rattle.std.proofs.Common.{◌≡◌, ◌≤◌, ◌<◌, ◌-◌, ◌≢◌, refl, sym, ◌∙◌, ℕ, zero, suc, List, Bool, true, false, inl, inr, subst, [], ◌∷◌, ◌++◌, length, get_or, slice_set, ◌==◌, Some, Ok, Err, nat_lt, ◌⊎◌, cond, arith, length-append}
+use Rattle.std.proofs.Common.{◌≡◌, ◌≤◌, ◌<◌, ◌-◌, ◌≢◌, refl, sym, ap, ◌∙◌, ℕ, zero, suc, List, Bool, true, false, inl, inr, subst, [], ◌∷◌, ◌++◌, length, get_or, slice_set, ◌==◌, Some, Ok, Err, nat_lt, ◌⊎◌, cond, arith, length-append}
 use Rattle.std.specs.Prelude.{slice_get, unwrap_or}
 use Rattle.std.proofs.lemmas.Option.{unwrap_or-slice_get}
 use Rattle.std.proofs.lemmas.List.{get_or-set_other, get_or_append_left}
-use Rattle.sqlval.specs.Refusals.{Answer, Busy, StaleSnapshot, TooLong}
+use Rattle.sqlval.specs.Refusals.{Answer, Refusal, Busy, StaleSnapshot, TooLong}
 use Rattle.sqlval.specs.declared.value.Value.{Value}
 use Rattle.sql_syntax.specs.declared.query.Query.{Query}
 use Rattle.sql_syntax.specs.declared.statement.BeginMode.{BeginMode}
@@ -14,8 +14,9 @@ use Rattle.catalog.specs.Database.{Database}
 use Rattle.query_names.specs.Checked.{Checked, Meant}
 use Rattle.session.specs.Laws.{IsBeside, LeavesOthers}
 use Rattle.session.specs.Machine.{is_writing, another, newest, committed, last_place, Machine, Connection, Idle, InTransactionOf, Phase, NoSnapshot, Reads, Writes, SavepointState, Reply, Rows, Refused, connection, with_connection}
-use Rattle.session.specs.Outcomes.{Outcome, Gives, RefusedBy, Ends, Commits, Copies, Bound, outcome, sorted_outcome, begun, control, write_outcome, read_outcome, given, worked, worked_alone, unless_busy, commit_outcome, released, restored, saved, from_name}
-use Rattle.executor.specs.Works.{Work, Makes, IsRefused, Undoes, Binds, Sort, Querying, Writing, Controlling, sort}
+use Rattle.session.specs.Outcomes.{Outcome, left_by, Gives, RefusedBy, Commits, Copies, Bound, outcome, sorted_outcome, begun, control, write_outcome, read_outcome, given, worked, worked_alone, unless_busy, commit_outcome, released, restored, saved, from_name}
+use Rattle.executor.specs.Works.{Work, Makes, IsRefused, Binds, Sort, Querying, Writing, Controlling, sort}
+use Rattle.session.proofs.Answered.{IsEnding, IsPlain, either_way}
 use Rattle.session.specs.Steps.{Allowed, Instead, is_connection, after_commit, fails}
 
 -- the machine is left so that the others are as they were
@@ -56,7 +57,6 @@ doubt_beside m c db = record { others = λ d low other. refl; longer = omega ari
 -- where it goes on in a machine, the others are as they were there
 abbrev pub Stays : Machine → ℕ → Outcome → Type 0
 Stays m c (Gives rows m') = IsBeside m c m'
-Stays m c (Ends r m') = IsBeside m c m'
 Stays m c (Bound db ch o) = Stays m c o
 Stays m c _ = Unit {0}
 
@@ -74,13 +74,11 @@ read_stays m c q (InTransactionOf b ss (Writes i db)) low = given_stays m m c _ 
 worked_stays : (m : Machine) (c : ℕ) (b : Bool) (ss : List SavepointState) (i : ℕ) (w : Work) → 1 ≤ c → Stays m c (worked m c b ss i w)
 worked_stays m c b ss i (Makes db) low = with_beside m c _ low
 worked_stays m c b ss i (IsRefused rs) low = tt
-worked_stays m c b ss i (Undoes r) low = with_beside m c _ low
 worked_stays m c b ss i (Binds db ch w) low = worked_stays m c b ss i w low
 
 alone_stays : (m : Machine) (c : ℕ) (w : Work) → Stays m c (worked_alone w m)
 alone_stays m c (Makes db) = tt
 alone_stays m c (IsRefused rs) = tt
-alone_stays m c (Undoes r) = beside_itself m c
 alone_stays m c (Binds db ch w) = alone_stays m c w
 
 chosen_stays : (m : Machine) (c : ℕ) (b : Bool) (o p : Outcome) → Stays m c o → Stays m c p → Stays m c (cond b o p)
@@ -148,10 +146,16 @@ outcome_stays m c s low = sorted_stays (sort s) s m c (connection m c) low
 pub moved : (m new mid : Machine) (c : ℕ) → new ≡ mid → IsBeside m c mid → IsBeside m c new
 moved m new mid c e h = subst (λ n. IsBeside m c n) (sym e) h
 
+left_beside : (m : Machine) (c : ℕ) (r : Refusal) → 1 ≤ c → IsBeside m c (left_by m c r)
+left_beside m c r low = by_way (either_way r)
+  where
+    by_way : IsPlain r ⊎ IsEnding r → IsBeside m c (left_by m c r)
+    by_way (inl plain) = moved m (left_by m c r) m c (plain.left m c) (beside_itself m c)
+    by_way (inr ends) = moved m (left_by m c r) (with_connection m c Idle) c (ap (left_by m c) ends.is) (with_beside m c Idle low)
+
 allowed_stays : (m : Machine) (c : ℕ) (o : Outcome) (reply : Reply) (new : Machine) → 1 ≤ c → Stays m c o → Allowed m c o reply new → IsBeside m c new
 allowed_stays m c (Gives rows m') reply new low k h = moved m new m' c h.1 k
-allowed_stays m c (RefusedBy rs) reply new low k h = moved m new m c h.3 (beside_itself m c)
-allowed_stays m c (Ends q m') reply new low k h = moved m new m' c h.1 k
+allowed_stays m c (RefusedBy rs) reply new low k h = moved m new (left_by m c h.0) c h.3 (left_beside m c h.0 low)
 allowed_stays m c (Commits alone db) (Rows rows) new low k h = either h.1
   where
     either : (new ≡ after_commit m c db) ⊎ (new ≡ fails (after_commit m c db)) → IsBeside m c new
@@ -164,7 +168,7 @@ allowed_stays m c (Commits alone db) (Refused r) new low k h = either h.1
     either (inr e) = moved m new (record (fails m) { in_doubt = Some db }) c e (doubt_beside m c db)
 allowed_stays m c (Copies mode) (Rows rows) new low k (n, copied, le, e, same) = moved m new m c same (beside_itself m c)
 allowed_stays m c (Copies mode) (Refused r) new low k h = moved m new (fails m) c h.1 (fails_beside m m c (beside_itself m c))
-allowed_stays m c (Bound db ch o) reply new low k (inl h) = moved m new m c h.3 (beside_itself m c)
+allowed_stays m c (Bound db ch o) reply new low k (inl h) = moved m new (left_by m c h.0) c h.3 (left_beside m c h.0 low)
 allowed_stays m c (Bound db ch o) reply new low k (inr h) = allowed_stays m c o reply new low k h.1
 
 instead_stays : (m : Machine) (c : ℕ) (o : Outcome) (reply : Reply) (new : Machine) → Instead m o reply new → IsBeside m c new

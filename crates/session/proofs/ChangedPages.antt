@@ -1,5 +1,5 @@
 -- What a statement's change of a writer's pages comes to for the two files.
-use Rattle.std.proofs.Common.{◌≡◌, ◌∙◌, ◌≤◌, ◌/◌, refl, sym, ap, subst, arith, ℕ, List, true, inl}
+use Rattle.std.proofs.Common.{◌≡◌, ◌∙◌, ◌≤◌, ◌/◌, refl, sym, ap, subst, arith, ℕ, true, inl}
 use Rattle.std.specs.Prelude.{⊤, Option, Some, None, Result, Ok, Err, IsTrue, OnErr, max, IsErrAnd}
 use Rattle.std.proofs.Math.Nat.{div-mul-le_self, mul-le-mul_left, mul-le-mul_right}
 use Rattle.sqlval.specs.declared.fault.Fault.{Fault}

@@ -94,7 +94,7 @@ module _ {D : Type 0} {g : Ghosts D} where
       let is = checkpoint_outcome mode m c.connection (InTransactionOf k.began k.points k.phase) (shown.is ∙ k.is) in
       record {
         next = m;
-        step = by_outcome m c.connection (statement.Checkpoint mode) refl shown.running shown.numbered (RefusedBy (refusal.InTransaction ∷ [])) (Refused refusal.InTransaction) m is (refusal.InTransaction, (0, omega arith, refl), refl, refl);
+        step = by_outcome m c.connection (statement.Checkpoint mode) shown.running shown.numbered (RefusedBy (refusal.InTransaction ∷ [])) (Refused refusal.InTransaction) m is (refusal.InTransaction, (0, omega arith, refl), refl, refl);
         shown = inr shown;
         crash = as_shown c m (inr shown);
         renewed = λ more. not_longer m.history more;
@@ -181,7 +181,7 @@ module _ {D : Type 0} {g : Ghosts D} where
       pub answered : (counts : Counts) (rows : List (List Value)) → counts.is_blocked ≡ is_kept mode others → counts.copied ≤ counts.frames → rows ≡ numbers_of counts ∷ [] → StepsTo old m (statement.Checkpoint mode) (Rows rows) new
       answered counts rows blocked few one = record {
         next = m;
-        step = by_outcome m old.connection (statement.Checkpoint mode) refl shown.running shown.numbered (Copies mode) (Rows rows) m outcome_is
+        step = by_outcome m old.connection (statement.Checkpoint mode) shown.running shown.numbered (Copies mode) (Rows rows) m outcome_is
             (answer_allowed m old.connection mode others counts rows (others_so (files_of old) m.history old.parked.items ks shown.parked) blocked few one);
         shown = inr copied_shown;
         crash = held (MayShow m m) (inl refl);
@@ -200,7 +200,7 @@ module _ {D : Type 0} {g : Ghosts D} where
     failed : has_failed_in new ≡ true → StepsTo old m (statement.Checkpoint mode) (Refused refusal.Io) new
     failed marked = record {
       next = fails m;
-      step = by_outcome m old.connection (statement.Checkpoint mode) refl shown.running shown.numbered (Copies mode) (Refused refusal.Io) (fails m) outcome_is (refl, refl);
+      step = by_outcome m old.connection (statement.Checkpoint mode) shown.running shown.numbered (Copies mode) (Refused refusal.Io) (fails m) outcome_is (refl, refl);
       shown = inl (marked, refl, left_failed);
       crash = held (MayShow m (fails m)) (inl refl);
       renewed = λ more. not_longer m.history more;
@@ -209,7 +209,7 @@ module _ {D : Type 0} {g : Ghosts D} where
     short : beside_in new ≡ beside_in old → ShowTheSame (files_of old) (files_of new) → StepsTo old m (statement.Checkpoint mode) (Refused refusal.Memory) new
     short beside same = record {
       next = m;
-      step = instead m old.connection (statement.Checkpoint mode) refl shown.running shown.numbered (Copies mode) (Refused refusal.Memory) outcome_is (inl refl, refl);
+      step = instead m old.connection (statement.Checkpoint mode) shown.running shown.numbered (Copies mode) (Refused refusal.Memory) outcome_is (inl refl, refl);
       shown = inr (still_shown old new m shown same beside catalog_is transaction_is);
       crash = held (MayShow m m) (inl refl);
       renewed = λ more. not_longer m.history more;
@@ -236,9 +236,9 @@ module _ {D : Type 0} {g : Ghosts D} where
     refused_by f beside (inr io) = subst (λ (e : Fault). StepsTo old m (statement.Checkpoint mode) (Refused (refusal_of e)) new) (sym io) (failed (marked_by f io beside))
 
     -- and the same of what is left
-    pub left_after : (f : Fault) → beside_in new ≡ record (beside_in old) { failed = has_failed_in old || is_io f } → IsCheckpointRefusal (files_of old) (files_of new) f → (has_failed_in new ≡ true) × IsLeftBy (files_of new) (fails m) ⊎ RepresentsRunning new m
-    left_after f beside (inl memory) = inr (still_shown old new m shown (same_files (files_of old) (files_of new) shown.told memory.2 memory.3 memory.1) (still_beside f memory.0 beside) catalog_is transaction_is)
-    left_after f beside (inr io) = inl (marked_by f io beside, left_failed)
+    pub once_answered : (f : Fault) → beside_in new ≡ record (beside_in old) { failed = has_failed_in old || is_io f } → IsCheckpointRefusal (files_of old) (files_of new) f → (has_failed_in new ≡ true) × IsLeftBy (files_of new) (fails m) ⊎ RepresentsRunning new m
+    once_answered f beside (inl memory) = inr (still_shown old new m shown (same_files (files_of old) (files_of new) shown.told memory.2 memory.3 memory.1) (still_beside f memory.0 beside) catalog_is transaction_is)
+    once_answered f beside (inr io) = inl (marked_by f io beside, left_failed)
 
     pub may_now : MayCopy (files_of old) copies.target
     may_now = may
@@ -313,7 +313,7 @@ module _ {D : Type 0} {g : Ghosts D} where
           → (has_failed_in new ≡ true) × IsLeftBy (files_of new) (fails m) ⊎ RepresentsRunning new m
       by_result (Ok counts) seats copies = inr (copied_shown mid new m modes.Passive shown is (Ok counts) copies seats.transaction seats.catalog seats.beside
           (copies.done (may_now mid new m modes.Passive shown is (Ok counts) copies seats.transaction seats.catalog)))
-      by_result (Err f) seats copies = left_after mid new m modes.Passive shown is (Err f) copies seats.transaction seats.catalog f seats.failed
+      by_result (Err f) seats copies = once_answered mid new m modes.Passive shown is (Err f) copies seats.transaction seats.catalog f seats.failed
           (copies.refused.1 (may_now mid new m modes.Passive shown is (Err f) copies seats.transaction seats.catalog))
 
   pub copied_after : (mid new : Connections D g) (m : Machine) → RepresentsRunning mid m → mid.transaction ≡ transaction.Idle → CopiesAfter mid new → Follows mid new m

@@ -33,6 +33,8 @@ use Rattle.session.specs.Applying.{CommitsChanges, CommitsDatabase, CommitsThen,
 use Rattle.session.specs.declared.transactions.Connections.{Connections}
 use Rattle.session.specs.declared.seats.Transaction.{Transaction}
 use Rattle.session.specs.declared.seats.Transaction.TheVariants as transaction
+use Rattle.session.proofs.Answered.{free_is_plain}
+use Rattle.session.proofs.EndedSteps.{plain_step}
 use Rattle.session.proofs.CommitCrashes.{commit_crashes, doubt_left, doubt_crashes, doubted, last_is}
 use Rattle.session.specs.Checkpoints.{CopiesAfter}
 use Rattle.session.proofs.CheckpointSteps.{copied_after, renewed_after, then_steps}
@@ -64,10 +66,10 @@ module _ {D : Type 0} {g : Ghosts D} where
   pub none_to_commit : (old new : Connections D g) (s : Statement) → CommitsBy old s → is_idle old.transaction ≡ true → Begins old new old.transaction → StepsOn old s (Refused refusal.NoTransaction) new
   none_to_commit old new s commits idle same m shown =
       let k = idle_first (files_of old) old.catalog m old.transaction shown.present shown.transaction idle in
-      let is = commits.1 m shown ∙ commit_outcome_of m old.connection Idle (shown.is ∙ k) in
+      let is = commits m shown ∙ commit_outcome_of m old.connection Idle (shown.is ∙ k) in
       record {
         next = m;
-        step = by_outcome m old.connection s commits.0 shown.running shown.numbered (RefusedBy (refusal.NoTransaction ∷ [])) (Refused refusal.NoTransaction) m is (refusal.NoTransaction, (0, omega arith, refl), refl, refl);
+        step = by_outcome m old.connection s shown.running shown.numbered (RefusedBy (refusal.NoTransaction ∷ [])) (Refused refusal.NoTransaction) m is (refusal.NoTransaction, (0, omega arith, refl), refl, refl);
         shown = inr (still_shown old new m shown (subst (ShowTheSame (files_of old)) (sym same.files) (the_same (files_of old) shown.told)) same.beside same.catalog same.now);
         crash = crash_keeps old new m m shown (subst (ShowTheSame (files_of old)) (sym same.files) (the_same (files_of old) shown.told));
         renewed = λ more. not_longer m.history more;
@@ -77,7 +79,7 @@ module _ {D : Type 0} {g : Ghosts D} where
   pub ended_reading : (old new : Connections D g) (s : Statement) → CommitsBy old s → is_reading old.transaction ≡ true → IsGivenUp old new → StepsOn old s (Rows []) new
   ended_reading old new s commits reads ends m shown = record {
     next = with_connection m old.connection Idle;
-    step = by_outcome m old.connection s commits.0 shown.running shown.numbered (Gives [] (with_connection m old.connection Idle)) (Rows []) (with_connection m old.connection Idle) is (refl, refl);
+    step = by_outcome m old.connection s shown.running shown.numbered (Gives [] (with_connection m old.connection Idle)) (Rows []) (with_connection m old.connection Idle) is (refl, refl);
     shown = inr (moved old new m Idle shown (subst (ShowTheSame (files_of old)) (sym ends.files) (the_same (files_of old) shown.told)) ends.beside (inl refl)
         (subst (λ (t : Transaction). IsTransaction (files_of new) new.catalog m.history t Idle) (sym ends.idle) (refl, ends.all, ends.savepoints)));
     crash = crash_keeps old new m (with_connection m old.connection Idle) shown (subst (ShowTheSame (files_of old)) (sym ends.files) (the_same (files_of old) shown.told));
@@ -88,7 +90,7 @@ module _ {D : Type 0} {g : Ghosts D} where
       r = reads_in (files_of old) old.catalog m old.connection old.transaction shown.present reads shown.transaction
 
       is : outcome m old.connection s ≡ Gives [] (with_connection m old.connection Idle)
-      is = commits.1 m shown ∙ commit_outcome_of m old.connection (in_transaction old.catalog r.first.points r.phase) (shown.is ∙ r.first.is) ∙ r.is.commits
+      is = commits m shown ∙ commit_outcome_of m old.connection (in_transaction old.catalog r.first.points r.phase) (shown.is ∙ r.first.is) ∙ r.is.commits
 
   -- ---- what a commit shows
 
@@ -184,10 +186,10 @@ module _ {D : Type 0} {g : Ghosts D} where
 
   module _ (old mid new : Connections D g) (m : Machine) (w : Writer) (in_writing : WritesIn old mid m w) (s : Statement) (commits : CommitsBy old s) where
     commits_it : outcome m old.connection s ≡ Commits false in_writing.on.db
-    commits_it = commits.1 m in_writing.shown ∙ commit_outcome_of m old.connection (in_transaction old.catalog in_writing.on.points (Writes (last_place m) in_writing.on.db)) (in_writing.shown.is ∙ in_writing.on.is)
+    commits_it = commits m in_writing.shown ∙ commit_outcome_of m old.connection (in_transaction old.catalog in_writing.on.points (Writes (last_place m) in_writing.on.db)) (in_writing.shown.is ∙ in_writing.on.is)
 
     step_to : (reply : Reply) (next : Machine) → Allowed m old.connection (Commits false in_writing.on.db) reply next → StepSoFar m old.connection s reply next
-    step_to reply next allowed = by_outcome m old.connection s commits.0 in_writing.shown.running in_writing.shown.numbered (Commits false in_writing.on.db) reply next commits_it allowed
+    step_to reply next allowed = by_outcome m old.connection s in_writing.shown.running in_writing.shown.numbered (Commits false in_writing.on.db) reply next commits_it allowed
 
     -- no other connection writes
     alone_writes : another is_writing m old.connection ≡ false
@@ -241,7 +243,7 @@ module _ {D : Type 0} {g : Ghosts D} where
     instead_step : (left : Writer) (r : Refusal) → is_free r ≡ true → ShowTheSame (files_of old) (files_of new) → RepresentsRunning (writing_on new left) m → StepsTo old m s (Refused r) (writing_on new left)
     instead_step left r free same shown = record {
       next = m;
-      step = instead m old.connection s commits.0 in_writing.shown.running in_writing.shown.numbered (Commits false in_writing.on.db) (Refused r) commits_it (inl free, refl);
+      step = plain_step m m old.connection new.connection s r (free_is_plain r free) (instead m old.connection s in_writing.shown.running in_writing.shown.numbered (Commits false in_writing.on.db) (Refused r) commits_it (inl free, refl));
       shown = inr shown;
       crash = crash_keeps old new m m in_writing.shown same;
       renewed = λ more. not_longer m.history more;

@@ -3,6 +3,8 @@ use Rattle.std.specs.Prelude.{◌≡◌, Bool, true, false, refl, ℕ, zero, suc
 use Rattle.std.proofs.Common.{inl, inr, arith, sym, subst, ◌⊎◌}
 use mathlib.Core.Bool.{true≢false}
 use Rattle.sqlval.specs.Refusals.{Busy, Exists, StaleSnapshot, NoTransaction, NoSavepoint, InTransaction, Misuse, NoSuch, Raised, RaisedRollback, TooLong, Unique, Unsupported}
+use Rattle.sqlval.specs.declared.fault.Fault.TheVariants as fault
+use Rattle.sqlval.specs.declared.fault.Feature.TheVariants as feature
 use Rattle.sqlval.specs.declared.value.Value.{Value}
 use Rattle.sql_syntax.specs.Tree.{Binary, Raise}
 use Rattle.sql_syntax.specs.declared.create.NewObject.TheVariants as new
@@ -22,8 +24,8 @@ use Rattle.query_names.proofs.Written.{number, named, named_of, select, result, 
 use Rattle.trigger.specs.Binding.{IsFault}
 use Rattle.trigger.proofs.BindingRows.{no_faults_behind}
 use Rattle.session.specs.Supported.{StepSoFar}
-use Rattle.session.specs.Machine.{Machine, Reply, Rows, Refused, fresh}
-use Rattle.session.specs.Outcomes.{RefusedBy, given, outcome}
+use Rattle.session.specs.Machine.{InTransactionOf, Machine, NoSnapshot, Reply, Rows, Refused, fresh, with_connection}
+use Rattle.session.specs.Outcomes.{given, outcome}
 use Rattle.session.specs.Steps.{Step, Allowed, after_commit}
 use Rattle.session.proofs.Replies.{replies, ok, creating, create_table, inserting, selecting, begin}
 
@@ -115,9 +117,13 @@ pub raise_rollback_outside : replies (fresh []) ((1, statement.Select (select (r
 unfolding outcome
 raise_rollback_outside = refl
 
--- no query outside a trigger comes to RAISE(ROLLBACK); if one did, the reply would be that of RAISE
-pub rollback_is_answered : given (fresh []) (Meant (Err (RaisedRollback (codes "x"))) []) ≡ RefusedBy (Raised (codes "x") ∷ [])
-rollback_is_answered = refl
+-- BEGIN; a statement that comes to RAISE(ROLLBACK): the reply is that of RAISE, and there is no transaction any more
+pub rollback_is_answered : Allowed (with_connection (fresh []) 1 (InTransactionOf false [] NoSnapshot)) 1 (given (fresh []) (Meant (Err (RaisedRollback (codes "x"))) [])) (Refused (Raised (codes "x"))) (fresh [])
+rollback_is_answered = (RaisedRollback (codes "x"), (0, omega arith, refl), refl, refl)
+
+-- RAISE(ABORT) in the same place leaves the transaction
+pub abort_is_answered : Allowed (with_connection (fresh []) 1 (InTransactionOf false [] NoSnapshot)) 1 (given (fresh []) (Meant (Err (Raised (codes "x"))) [])) (Refused (Raised (codes "x"))) (with_connection (fresh []) 1 (InTransactionOf false [] NoSnapshot))
+abort_is_answered = (Raised (codes "x"), (0, omega arith, refl), refl, refl)
 
 -- SAVEPOINT x; 2: insert 1; insert 2; ROLLBACK TO x gives up the second row alone, and keeps the write right until RELEASE x
 pub rolled_back_to : replies (fresh []) ((1, create) ∷ (1, statement.Savepoint x) ∷ (2, add 1) ∷ (1, add 2) ∷ (1, statement.RollbackTo x) ∷ (1, read) ∷ (2, add 9) ∷ (1, statement.Release x) ∷ (2, add 9) ∷ [])
@@ -153,13 +159,9 @@ pub inserted : Step (fresh one) 1 (add 1) (Rows []) (after_commit (fresh one) 1 
 unfolding outcome
 inserted = inr (inr (refl, refl, inl (inr (no_faults_behind one (insert t (number 1 ∷ [])) refl refl, (refl, inl refl)))))
 
--- so it is while not all is built; a form that isn't is refused
+-- so it is while triggers are set off by no statement
 pub inserted_so_far : StepSoFar (fresh one) 1 (add 1) (Rows []) (after_commit (fresh one) 1 (with_object one t (table (col a ∷ []) ((pos 1, i 1) ∷ []))))
-inserted_so_far = inl (refl, inl inserted)
-
--- CREATE TRIGGER g AFTER DELETE ON t BEGIN DELETE FROM t; END
-pub unsupported_form : StepSoFar (fresh one) 1 (creating (new.Trigger (record { name = codes "g"; time = After; event = Delete; target = t; condition = None; body = program.Change (delete t None) ∷ [] }))) (Refused Unsupported) (fresh one)
-unsupported_form = inr (refl, refl, inr (inr (refl, refl, inl refl)))
+inserted_so_far = inl inserted
 
 -- g AFTER DELETE ON t WHEN OLD.a = 99: DELETE FROM nosuch. DELETE FROM t, where t has no row
 abbrev with_g : Database
@@ -169,6 +171,10 @@ with_g = with_object one (codes "g") (ATrigger (record { name = codes "g"; time 
 pub trigger_refused : (r : Reply) (m : Machine) → r ≡ Refused NoSuch → m ≡ fresh with_g → Step (fresh with_g) 1 (statement.Change (delete t None)) r m
 unfolding outcome
 trigger_refused r m h k = inr (inr (refl, refl, inl (inl (NoSuch, (1, (0, omega arith, refl)), h, k))))
+
+-- while no statement sets a trigger off, it may also be refused as such
+pub trigger_not_set_off : StepSoFar (fresh with_g) 1 (statement.Change (delete t None)) (Refused Unsupported) (fresh with_g)
+trigger_not_set_off = inr (Unsupported, refl, refl, refl, (fault.Unsupported feature.StatementForm, refl, inr (record { is = refl; change = delete t None; change_is = refl; some = refl })))
 
 pub trigger_not_served : (rows : List (List Value)) (m : Machine) → Step (fresh with_g) 1 (statement.Change (delete t None)) (Rows rows) m → ⊥
 unfolding outcome

@@ -15,7 +15,7 @@ use Rattle.sql_syntax.specs.declared.statement.CheckpointMode.{CheckpointMode}
 use Rattle.sql_syntax.specs.declared.statement.Statement.{Statement}
 use Rattle.sql_syntax.specs.declared.statement.Statement.TheVariants as statement
 use Rattle.session.specs.Supported.{StepSoFar}
-use Rattle.executor.specs.Forms.{answers_rows, is_supported}
+use Rattle.executor.specs.Forms.{answers_rows}
 use Rattle.wal.specs.declared.log.Log.{Log}
 use Rattle.session.specs.CopiedBack.{KeepsDisksWhereShort}
 use Rattle.session.specs.ConnectionState.{files_of, first_refusal, has_failed_in}
@@ -23,9 +23,10 @@ use Rattle.session.specs.Machine.{Machine, Reply, Refused, Rows}
 use Rattle.session.specs.Steps.{is_connection}
 use Rattle.pager.specs.Views.{Tells}
 use Rattle.session.specs.Failing.{HasCallFailed, IsPastIn, IsRefusedFor, IsRefusedHere, MarksFailure, may_want_memory}
-use Rattle.session.specs.Representation.{CopiesAnswered, Represents, ShowTheSame, Steps, StepsOn, StepsOver, Switches, done_reply, others_in, rows_reply}
+use Rattle.session.specs.Representation.{CopiesAnswered, Represents, RepresentsRunning, ShowTheSame, Steps, StepsOver, Switches, done_reply, others_in, rows_reply}
 use Rattle.session.specs.declared.seats.Seat.{Seat}
 use Rattle.session.specs.declared.transactions.Connections.{Connections}
+use Rattle.session.proofs.EndedSteps.{AnswersTo}
 use Rattle.session.proofs.Selecting.{Rowed}
 use Rattle.session.proofs.Settled.{as_shown, not_longer}
 use Rattle.session.proofs.Switching.{steps_over, switched_others, switched_shown, was_present}
@@ -88,10 +89,10 @@ either false go other = other refl
 
 module _ (m : Machine) (n : ℕ) (s : Statement) where
   failed_step : m.failed ≡ true → StepSoFar m n s (Refused refusal.Failed) m
-  failed_step failed = either (is_supported s) (λ is. inl (is, inl (inl (failed, refl, refl)))) (λ is. inr (is, refl, inl (failed, refl)))
+  failed_step failed = inl (inl (failed, refl, refl))
 
   numbered_step : m.failed ≡ false → is_connection n ≡ false → StepSoFar m n s (Refused refusal.Misuse) m
-  numbered_step running none = either (is_supported s) (λ is. inl (is, inl (inr (inl (running, none, refl, refl))))) (λ is. inr (is, refl, inr (inl (running, none, refl))))
+  numbered_step running none = inl (inr (inl (running, none, refl, refl)))
 
 pub no_connection : (n : ℕ) → (n == 0 || nat_lt 16 n) ≡ true → is_connection n ≡ false
 no_connection n is = grind (arith, nat_tests)
@@ -167,14 +168,9 @@ module _ {D : Type 0} {g : Ghosts D} where
       some : (n == 0 || nat_lt 16 n) ≡ false → StepsOver c m n s (Refused (refusal_of f)) c
       some good = absurd (not_both f (sym (passes_by n good) ∙ whole))
 
-  -- a form that isn't supported
-  pub unsupported_form : (c : Connections D g) (n : ℕ) (s : Statement) → first_refusal (has_failed_in c) n ≡ done → is_supported s ≡ false → Steps c n s (Refused refusal.Unsupported) c
-  unsupported_form c n s first none m shows =
-      let on = served_for c m n first shows in
-      stays_with c m n s refusal.Unsupported shows (inr (none, refl, inr (inr (on.0, on.1, inl refl))))
-
   -- where no commit has failed, what is shown is shown whole
-  pub steps_switched : (old mid new : Connections D g) (n : ℕ) (s : Statement) (reply : Reply) → first_refusal (has_failed_in old) n ≡ done → Switches n old mid → CopiesAnswered mid.parked.items (files_of mid) s reply (files_of new) → StepsOn mid s reply new → Steps old n s reply new
+  pub steps_switched : (old mid new : Connections D g) (n : ℕ) (s : Statement) (reply : Reply) → first_refusal (has_failed_in old) n ≡ done → Switches n old mid → CopiesAnswered mid.parked.items (files_of mid) s reply (files_of new)
+      → ((m : Machine) → RepresentsRunning mid m → AnswersTo mid m s reply new) → Steps old n s reply new
   steps_switched old mid new n s reply is switch copied steps m (inl failed) = absurd (not_both fault.Failed (sym is ∙ ap (λ b. first_refusal b n) failed.0))
   steps_switched old mid new n s reply is switch copied steps m (inr shown) =
       let on = served_for old m n is (inr shown) in

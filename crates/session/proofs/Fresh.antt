@@ -4,7 +4,7 @@ use Rattle.std.proofs.lemmas.Bool.{false≢true}
 use Rattle.std.specs.Prelude.{slice_set}
 use Rattle.disk.specs.declared.device.Disk.{Ghosts}
 use Rattle.catalog.specs.Database.{Database}
-use Rattle.catalog.specs.Listed.{listed_in, Listed}
+use Rattle.catalog.specs.Listed.{listed_in}
 use Rattle.pager.specs.Views.{Tells, newest_view}
 use Rattle.session.specs.Holding.{IsSettled}
 use Rattle.session.specs.ConnectionState.{files_of, has_failed_in}

@@ -1,5 +1,5 @@
 -- Calls of pages leave the files as they were.
-use Rattle.std.proofs.Common.{◌≡◌, ◌≤◌, refl, sym, ap, subst, arith, ℕ, List}
+use Rattle.std.proofs.Common.{◌≡◌, ◌≤◌, refl, sym, ap, subst, arith, ℕ}
 use Rattle.std.specs.Prelude.{Some, None, Bool, true, false, IsTrue, if◌then◌else◌}
 use Rattle.disk.specs.File.{File}
 use Rattle.disk.specs.declared.device.Disk.{Ghosts}

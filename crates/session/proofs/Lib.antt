@@ -1,4 +1,8 @@
 mod ConnectionRows
+pub mod Answered
+mod ControlRefusals
+pub mod EndedSteps
+mod SettledFaults
 pub mod Refusals
 pub mod Replies
 pub mod ErrorCauses

@@ -10,14 +10,13 @@ use Rattle.sql_syntax.specs.declared.statement.Statement.TheVariants as statemen
 use Rattle.catalog.specs.Database.{Name}
 use Rattle.query_names.proofs.Written.{from, select, results, insert, table_with}
 use Rattle.session.specs.Machine.{Machine, Reply, Rows, Refused}
-use Rattle.session.specs.Outcomes.{Outcome, Gives, RefusedBy, Ends, Commits, Bound, outcome}
+use Rattle.session.specs.Outcomes.{Outcome, Gives, RefusedBy, Commits, Bound, answered, left_by, outcome}
 use Rattle.session.specs.Steps.{after_commit}
 
 -- the machine after an outcome, where the triggers' programs are bound without refusal
 abbrev pub after : Machine → ℕ → Outcome → Machine
 after m c (Gives rows new) = new
-after m c (RefusedBy rs) = m
-after m c (Ends r new) = new
+after m c (RefusedBy (r ∷ rs)) = left_by m c r
 after m c (Commits alone db) = after_commit m c db
 after m c (Bound db change o) = after m c o
 after m c _ = m
@@ -25,8 +24,7 @@ after m c _ = m
 abbrev pub reply : Outcome → Reply
 reply (Gives rows new) = Rows rows
 reply (RefusedBy []) = Rows []
-reply (RefusedBy (r ∷ rs)) = Refused r
-reply (Ends r new) = Refused r
+reply (RefusedBy (r ∷ rs)) = Refused (answered r)
 reply (Bound db change o) = reply o
 reply _ = Rows []
 

@@ -18,10 +18,9 @@ use Rattle.catalog.specs.Database.{Name, Database}
 use Rattle.pager.specs.Marks.{marks_of}
 use Rattle.pager.specs.Views.{Tells}
 use Rattle.pager.specs.declared.writer.Writer.{Writer}
-use Rattle.executor.specs.Forms.{is_supported}
 use Rattle.session.specs.ConnectionState.{files_of}
 use Rattle.session.specs.Machine.{Machine, Connection, Idle, InTransactionOf, NoSnapshot, Phase, Reads, SavepointState, Writes, Rows, Refused, is_writing, last_place, newest, with_connection}
-use Rattle.session.specs.Outcomes.{Outcome, Gives, RefusedBy, back_to, commit_outcome, from_name, outcome, released, restored, saved}
+use Rattle.session.specs.Outcomes.{Outcome, Gives, RefusedBy, answered, back_to, left_by, commit_outcome, from_name, outcome, released, restored, saved}
 use Rattle.session.specs.Representation.{CommitsBy, IsReadingIn, IsTransaction, IsWritingIn, RepresentsRunning, ShowTheSame, StepsOn, StepsTo, beside_in, done_reply, is_idle, is_reading}
 use Rattle.session.specs.SavedTables.{AddsSavepoint, GoesBackTo, HasNoSavepoints, HasRoom, IsNewestNamed, KeepsTables, ReleasesFrom, SavedTables, Savepoints, current_in, names_in, savepoints_in}
 use Rattle.session.specs.Saving.{AddsMark, AreSaved, GoesBackToMark, IsOfName, KeepsWriter, OnWriter, ReleasesMarks, SavedAs, in_transaction, states_of}
@@ -94,21 +93,21 @@ module _ {D : Type 0} {g : Ghosts D} where
   same_files old new kept told = subst (ShowTheSame (files_of old)) (sym kept.files) (the_same (files_of old) told)
 
   -- a statement that is done leaves the machine with this connection
-  done_step : (old new : Connections D g) (m : Machine) (shown : RepresentsRunning old m) (s : Statement) → is_supported s ≡ true → (k : Connection) → IsLone m old.connection k → outcome m old.connection s ≡ Gives [] (with_connection m old.connection k)
+  done_step : (old new : Connections D g) (m : Machine) (shown : RepresentsRunning old m) (s : Statement) → (k : Connection) → IsLone m old.connection k → outcome m old.connection s ≡ Gives [] (with_connection m old.connection k)
       → KeepsFiles old new → IsTransaction (files_of old) new.catalog m.history new.transaction k → StepsTo old m s (Rows []) new
-  done_step old new m shown s supported k lone comes kept is = record {
+  done_step old new m shown s k lone comes kept is = record {
     next = with_connection m old.connection k;
-    step = by_outcome m old.connection s supported shown.running shown.numbered (Gives [] (with_connection m old.connection k)) (Rows []) (with_connection m old.connection k) comes (refl, refl);
+    step = by_outcome m old.connection s shown.running shown.numbered (Gives [] (with_connection m old.connection k)) (Rows []) (with_connection m old.connection k) comes (refl, refl);
     shown = inr (moved old new m k shown (same_files old new kept shown.told) kept.beside lone (subst (λ (l : Log D g). IsTransaction l new.catalog m.history new.transaction k) (sym kept.files) is));
     crash = crash_keeps old new m (with_connection m old.connection k) shown (same_files old new kept shown.told);
     renewed = λ more. not_longer m.history more;
   }
 
   -- a refusal that leaves all as it was
-  refused_step : (c : Connections D g) (m : Machine) (shown : RepresentsRunning c m) (s : Statement) → is_supported s ≡ true → (r : Refusal) → outcome m c.connection s ≡ RefusedBy (r ∷ []) → StepsTo c m s (Refused r) c
-  refused_step c m shown s supported r comes = record {
+  refused_step : (c : Connections D g) (m : Machine) (shown : RepresentsRunning c m) (s : Statement) → (r : Refusal) → outcome m c.connection s ≡ RefusedBy (r ∷ []) → StepsTo c m s (Refused r) c
+  refused_step c m shown s r comes = record {
     next = m;
-    step = by_outcome m c.connection s supported shown.running shown.numbered (RefusedBy (r ∷ [])) (Refused r) m comes (r, (0, omega arith, refl), refl, refl);
+    step = by_outcome m c.connection s shown.running shown.numbered (RefusedBy (r ∷ [])) (Refused (answered r)) (left_by m c.connection r) comes (r, (0, omega arith, refl), refl, refl);
     shown = inr shown;
     crash = as_shown c m (inr shown);
     renewed = λ more. not_longer m.history more;
@@ -135,7 +134,7 @@ module _ {D : Type 0} {g : Ghosts D} where
       reading : (t : Transaction) → ReadsIn (files_of c) c.catalog m c.connection t shown.present → StepsTo c m (statement.Savepoint n) (Refused TooLong) c
       reading t r =
           let next = Gives [] (with_connection m c.connection (InTransactionOf (savepoints_in c.catalog).began (record { name = folded n; working = None } ∷ states_of r.first.points) r.phase)) in
-          refused_step c m shown (statement.Savepoint n) refl TooLong (reading_saves c m shown n t r ∙ ap (λ b. if b then other else next) (room_is c.catalog r.first.points true r.first.saved full))
+          refused_step c m shown (statement.Savepoint n) TooLong (reading_saves c m shown n t r ∙ ap (λ b. if b then other else next) (room_is c.catalog r.first.points true r.first.saved full))
 
       by_case : (t : Transaction) → IsTransaction (files_of c) c.catalog m.history t shown.present → StepsTo c m (statement.Savepoint n) (Refused TooLong) c
       by_case transaction.Idle is = absurd (false≢true (sym (ap (λ (s : Savepoints). nat_lt 63 (length s.points)) is.2) ∙ full))
@@ -143,13 +142,13 @@ module _ {D : Type 0} {g : Ghosts D} where
       by_case (transaction.Reading s) is = reading (transaction.Reading s) (reads_in (files_of c) c.catalog m c.connection (transaction.Reading s) shown.present refl is)
       by_case (transaction.Writing w) is =
           let next = Gives [] (with_connection m c.connection (InTransactionOf (savepoints_in c.catalog).began (record { name = folded n; working = Some is.db } ∷ states_of is.points) (Writes (last_place m) is.db))) in
-          refused_step c m shown (statement.Savepoint n) refl TooLong (writing_saves c m shown n w is ∙ ap (λ b. if b then other else next) (room_is c.catalog is.points true is.saved full))
+          refused_step c m shown (statement.Savepoint n) TooLong (writing_saves c m shown n w is ∙ ap (λ b. if b then other else next) (room_is c.catalog is.points true is.saved full))
 
   -- out of memory, with all as it was
-  pub out_of_memory : (old new : Connections D g) (s : Statement) → is_supported s ≡ true → (m : Machine) → RepresentsRunning old m → KeepsFiles old new → RepresentsRunning new m → StepsTo old m s (Refused refusal.Memory) new
-  out_of_memory old new s supported m shown kept still = record {
+  pub out_of_memory : (old new : Connections D g) (s : Statement) → (m : Machine) → RepresentsRunning old m → KeepsFiles old new → RepresentsRunning new m → StepsTo old m s (Refused refusal.Memory) new
+  out_of_memory old new s m shown kept still = record {
     next = m;
-    step = instead m old.connection s supported shown.running shown.numbered (outcome m old.connection s) (Refused refusal.Memory) refl (inl refl, refl);
+    step = instead m old.connection s shown.running shown.numbered (outcome m old.connection s) (Refused refusal.Memory) refl (inl refl, refl);
     shown = inr still;
     crash = crash_keeps old new m m shown (same_files old new kept shown.told);
     renewed = λ more. not_longer m.history more;
@@ -186,7 +185,7 @@ module _ {D : Type 0} {g : Ghosts D} where
         all = adds.current ∙ none.0 ∙ sym adds.committed;
         saved = record { tables = points; hold = (record { named = refl; working = refl; tables = none.0 ∙ sym adds.committed }, tt) };
       } in
-      done_step old new m shown (statement.Savepoint n) refl next (inl refl) (savepoint_outcome n m old.connection Idle (shown.is ∙ k)) kept
+      done_step old new m shown (statement.Savepoint n) next (inl refl) (savepoint_outcome n m old.connection Idle (shown.is ∙ k)) kept
       (subst (λ (t : Transaction). IsTransaction (files_of old) new.catalog m.history t next) (sym now) first)
 
   -- one in a transaction that hasn't written
@@ -196,7 +195,7 @@ module _ {D : Type 0} {g : Ghosts D} where
       let r = reads_in (files_of old) old.catalog m old.connection old.transaction shown.present reads shown.transaction in
       let b = (savepoints_in old.catalog).began in
       let next = InTransactionOf b (record { name = folded n; working = None } ∷ states_of r.first.points) r.phase in
-      done_step old new m shown (statement.Savepoint n) refl next (inl (r.is.no_writer b (record { name = folded n; working = None } ∷ states_of r.first.points)))
+      done_step old new m shown (statement.Savepoint n) next (inl (r.is.no_writer b (record { name = folded n; working = None } ∷ states_of r.first.points)))
       (reading_saves old m shown n old.transaction r ∙ ap (λ t. if t then RefusedBy (TooLong ∷ []) else Gives [] (with_connection m old.connection next)) (room_is old.catalog r.first.points false r.first.saved room)) kept
       (subst (λ (t : Transaction). IsTransaction (files_of old) new.catalog m.history t next) (sym same) (r.stays new.catalog next adds.committed (reading_adds old.catalog new.catalog n r.phase shown.present r.first b adds)))
 
@@ -206,7 +205,7 @@ module _ {D : Type 0} {g : Ghosts D} where
   saved_writing old new n w v was room kept adds now marks m shown =
       let is = subst (λ (t : Transaction). IsTransaction (files_of old) old.catalog m.history t shown.present) was shown.transaction in
       let next = InTransactionOf (savepoints_in old.catalog).began (record { name = folded n; working = Some is.db } ∷ states_of is.points) (Writes (last_place m) is.db) in
-      done_step old new m shown (statement.Savepoint n) refl next (inr (lone_still old m shown (ap is_writing is.is)))
+      done_step old new m shown (statement.Savepoint n) next (inr (lone_still old m shown (ap is_writing is.is)))
       (writing_saves old m shown n w is ∙ ap (λ t. if t then RefusedBy (TooLong ∷ []) else Gives [] (with_connection m old.connection next)) (room_is old.catalog is.points false is.saved room)) kept
       (subst (λ (t : Transaction). IsTransaction (files_of old) new.catalog m.history t next) (sym now) (writing_adds (files_of old) old.catalog new.catalog m w v n shown.present is adds marks))
 
@@ -215,13 +214,13 @@ module _ {D : Type 0} {g : Ghosts D} where
       → IfErr result (λ f. (f ≡ fault.Memory) × KeepsTables old.catalog new.catalog) → new.transaction ≡ old.transaction → StepsOn old (statement.Savepoint n) (done_reply result) new
   saves_reading old new n (Ok done) reads room kept adds short same m shown = saved_reading old new n reads room kept adds same m shown
   saves_reading old new n (Err f) reads room kept adds short same m shown =
-      subst (λ (e : Fault). StepsTo old m (statement.Savepoint n) (Refused (refusal_of e)) new) (sym short.0) (out_of_memory old new (statement.Savepoint n) refl m shown kept (still_so old new m shown kept short.1 same))
+      subst (λ (e : Fault). StepsTo old m (statement.Savepoint n) (Refused (refusal_of e)) new) (sym short.0) (out_of_memory old new (statement.Savepoint n) m shown kept (still_so old new m shown kept short.1 same))
 
   pub saves_writing : (old new : Connections D g) (n : Name) (w v : Writer) (result : Result ⊤ Fault) → old.transaction ≡ transaction.Writing w → HasRoom old.catalog → KeepsFiles old new → OnOk result (AddsSavepoint n (savepoints_in old.catalog).began old.catalog new.catalog)
       → OnOk result (AddsMark w v) → IfErr result (λ f. (f ≡ fault.Memory) × KeepsTables old.catalog new.catalog × KeepsWriter w v) → new.transaction ≡ transaction.Writing v → StepsOn old (statement.Savepoint n) (done_reply result) new
   saves_writing old new n w v (Ok done) was room kept adds marks short now m shown = saved_writing old new n w v was room kept adds now marks m shown
   saves_writing old new n w v (Err f) was room kept adds marks short now m shown =
-      subst (λ (e : Fault). StepsTo old m (statement.Savepoint n) (Refused (refusal_of e)) new) (sym short.0) (out_of_memory old new (statement.Savepoint n) refl m shown kept (still_writing_so old new m w v shown kept short.1 was now short.2))
+      subst (λ (e : Fault). StepsTo old m (statement.Savepoint n) (Refused (refusal_of e)) new) (sym short.0) (out_of_memory old new (statement.Savepoint n) m shown kept (still_writing_so old new m w v shown kept short.1 was now short.2))
 
   -- ---- no savepoint of the name
 
@@ -247,15 +246,15 @@ module _ {D : Type 0} {g : Ghosts D} where
 
   pub none_to_release : (c : Connections D g) (n : Name) → list_any (λ other. is_same_name other n) (names_in c.catalog) ≡ false → StepsOn c (statement.Release n) (Refused NoSavepoint) c
   none_to_release c n none m shown = elim (no_savepoint c n none m shown) [
-    | inl idle ↦ refused_step c m shown (statement.Release n) refl NoSavepoint (release_outcome n m c.connection Idle (shown.is ∙ idle))
-    | inr in_any ↦ refused_step c m shown (statement.Release n) refl NoSavepoint
+    | inl idle ↦ refused_step c m shown (statement.Release n) NoSavepoint (release_outcome n m c.connection Idle (shown.is ∙ idle))
+    | inr in_any ↦ refused_step c m shown (statement.Release n) NoSavepoint
         (release_outcome n m c.connection (InTransactionOf in_any.began in_any.states in_any.phase) (shown.is ∙ in_any.is) ∙ ap (released m c.connection in_any.began in_any.phase) in_any.none)
   ]
 
   pub none_to_go_back : (c : Connections D g) (n : Name) → list_any (λ other. is_same_name other n) (names_in c.catalog) ≡ false → StepsOn c (statement.RollbackTo n) (Refused NoSavepoint) c
   none_to_go_back c n none m shown = elim (no_savepoint c n none m shown) [
-    | inl idle ↦ refused_step c m shown (statement.RollbackTo n) refl NoSavepoint (return_outcome n m c.connection Idle (shown.is ∙ idle))
-    | inr in_any ↦ refused_step c m shown (statement.RollbackTo n) refl NoSavepoint
+    | inl idle ↦ refused_step c m shown (statement.RollbackTo n) NoSavepoint (return_outcome n m c.connection Idle (shown.is ∙ idle))
+    | inr in_any ↦ refused_step c m shown (statement.RollbackTo n) NoSavepoint
         (return_outcome n m c.connection (InTransactionOf in_any.began in_any.states in_any.phase) (shown.is ∙ in_any.is) ∙ ap (restored m c.connection in_any.began in_any.phase) in_any.none)
   ]
 
@@ -266,7 +265,7 @@ module _ {D : Type 0} {g : Ghosts D} where
 
   -- the oldest savepoint of a transaction that it began: RELEASE comes to what COMMIT comes to
   pub release_commits : (c : Connections D g) (n : Name) (place : ℕ) → IsNewestNamed n (names_in c.catalog) place → place ≡ 0 → (savepoints_in c.catalog).began ≡ true → CommitsBy c (statement.Release n)
-  release_commits c n place named_here first began = (refl, λ m shown. by_case m shown c.transaction shown.transaction)
+  release_commits c n place named_here first began m shown = by_case m shown c.transaction shown.transaction
     where
       comes : (m : Machine) (p : Phase) (s : SavepointState) (b : Bool) (ss : List SavepointState) → b ≡ true → ss ≡ [] → released m c.connection b p (s ∷ ss) ≡ commit_outcome m c.connection p
       comes m p s true [] b none = refl
@@ -308,7 +307,7 @@ module _ {D : Type 0} {g : Ghosts D} where
       reading : (t : Transaction) → new.transaction ≡ t → ReadsIn (files_of old) old.catalog m old.connection t shown.present → StepsTo old m (statement.Release n) (Rows []) new
       reading t now r =
           let k = in_transaction old.catalog (take place r.first.points) r.phase in
-          done_step old new m shown (statement.Release n) refl k (inl (r.is.no_writer b (states_of (take place r.first.points)))) (comes r.first.points r.phase (λ p has. has.named) r.first.saved r.first.is) kept
+          done_step old new m shown (statement.Release n) k (inl (r.is.no_writer b (states_of (take place r.first.points)))) (comes r.first.points r.phase (λ p has. has.named) r.first.saved r.first.is) kept
           (subst (λ (t : Transaction). IsTransaction (files_of old) new.catalog m.history t k) (sym now)
           (r.stays new.catalog k releases.committed (reading_takes old.catalog new.catalog r.phase shown.present r.first place releases.committed (releases.current ∙ r.first.all) releases.savepoints)))
 
@@ -319,7 +318,7 @@ module _ {D : Type 0} {g : Ghosts D} where
       by_case (transaction.Writing w) is on =
           let k = in_transaction old.catalog (take place is.points) (Writes (last_place m) is.db) in
           let within = within_of old.catalog n is.points place is.saved named_here in
-          done_step old new m shown (statement.Release n) refl k (inr (lone_still old m shown (ap is_writing is.is))) (comes is.points (Writes (last_place m) is.db) (λ p has. has.named) is.saved is.is) kept
+          done_step old new m shown (statement.Release n) k (inr (lone_still old m shown (ap is_writing is.is))) (comes is.points (Writes (last_place m) is.db) (λ p has. has.named) is.saved is.is) kept
           (subst (λ (t : Transaction). IsTransaction (files_of old) new.catalog m.history t k) (sym on.1)
           (writing_releases (files_of old) old.catalog new.catalog m w on.0 place shown.present is releases (on.2 (omega (arith, within, ap length is.marks, length-map is.points (λ p. p.kept))))))
 
@@ -346,7 +345,7 @@ module _ {D : Type 0} {g : Ghosts D} where
           let k = in_transaction old.catalog (take (place + 1) r.first.points) r.phase in
           let within = within_of old.catalog n r.first.points place r.first.saved named_here in
           let tables = back.current at.at.item.tables ∙ ap (λ (s : SavedTables). s.tables) (tables_at old.catalog r.first.points place at.at r.first.saved within) ∙ at.at.has.tables in
-          done_step old new m shown (statement.RollbackTo n) refl k (inl (r.is.no_writer b (states_of (take (place + 1) r.first.points))))
+          done_step old new m shown (statement.RollbackTo n) k (inl (r.is.no_writer b (states_of (take (place + 1) r.first.points))))
           (comes r.first.points r.phase r.phase (λ p has. has.named) r.first.saved r.first.is (ap (λ working. back_to m working r.phase) at.at.has.working ∙ r.is.back)) kept
           (subst (λ (t : Transaction). IsTransaction (files_of old) new.catalog m.history t k) (sym now)
           (r.stays new.catalog k back.committed (reading_takes old.catalog new.catalog r.phase shown.present r.first (place + 1) back.committed tables back.savepoints)))
@@ -360,7 +359,7 @@ module _ {D : Type 0} {g : Ghosts D} where
           let next = Writes (last_place m) (unwrap_or at.at.item.state.working (newest m)) in
           let k = in_transaction old.catalog (take (place + 1) is.points) next in
           let within = within_of old.catalog n is.points place is.saved named_here in
-          done_step old new m shown (statement.RollbackTo n) refl k (inr (lone_still old m shown (ap is_writing is.is)))
+          done_step old new m shown (statement.RollbackTo n) k (inr (lone_still old m shown (ap is_writing is.is)))
           (comes is.points (Writes (last_place m) is.db) next (λ p has. has.named) is.saved is.is (back_writes m at.at.item.state.working is.db)) kept
           (subst (λ (t : Transaction). IsTransaction (files_of old) new.catalog m.history t k) (sym on.1)
           (writing_goes_back (files_of old) old.catalog new.catalog m w on.0 place shown.present is at.at within back (on.2 (omega (arith, within, ap length is.marks, length-map is.points (λ p. p.kept))))))

@@ -5,7 +5,6 @@ use Rattle.disk.specs.declared.device.Disk.{Ghosts}
 use Rattle.sqlval.specs.Refusals as refusal
 use Rattle.sqlval.specs.Refusals.{Answer, Refusal, refusal_of}
 use Rattle.sqlval.specs.declared.fault.Fault.{Fault}
-use Rattle.sqlval.specs.declared.fault.Fault.TheVariants as fault
 use Rattle.sqlval.specs.declared.value.Value.{Value}
 use Rattle.sql_syntax.specs.declared.query.Query.{Query}
 use Rattle.sql_syntax.specs.declared.statement.Statement.TheVariants as statement
@@ -22,13 +21,13 @@ use Rattle.session.specs.Supported.{StepSoFar}
 use Rattle.session.specs.Holding.{HoldThroughout}
 use Rattle.session.specs.ConnectionState.{files_of}
 use Rattle.session.specs.Machine.{Machine, Idle, NoSnapshot, Reads, Writes, Rows, Refused, committed, last_place, newest, with_connection}
-use Rattle.session.specs.Outcomes.{answered, given, outcome}
+use Rattle.session.specs.Outcomes.{answered, given, left_by, outcome}
 use Rattle.executor.specs.Works.{read_on}
 use Rattle.session.specs.Steps.{Allowed, Instead}
 use Rattle.session.specs.Crashes.{MayShow}
 use Rattle.session.specs.Stored.{ShowsDatabase}
 use Rattle.session.specs.Saving.{in_transaction}
-use Rattle.session.specs.Representation.{IsReadingIn, IsSnapshotOf, RepresentsRunning, IsTransaction, OnlyReads, SeesNewest, ShowTheSame, StartsReading, StepsOn, StepsTo, has_no_snapshot, is_begun, newest_tables, rows_reply, seen_in}
+use Rattle.session.specs.Representation.{Beside, IsReadingIn, IsSnapshotOf, RepresentsRunning, IsTransaction, OnlyReads, SeesNewest, ShowTheSame, StartsReading, StepsOn, StepsTo, has_no_snapshot, is_begun, newest_tables, rows_reply, seen_in}
 use Rattle.session.proofs.SeenPages.{at_newest}
 use Rattle.session.specs.declared.transactions.Connections.{Connections}
 use Rattle.session.specs.declared.seats.Transaction.{Transaction}
@@ -49,44 +48,10 @@ Reading = Checked (Answer (List (List Value)))
 pub given_rows : (m next : Machine) (n : ℕ) (rows : List (List Value)) (k : Reading) → k ≡ Meant (Ok rows) [] → Allowed m n (given next k) (Rows rows) next
 given_rows m next n rows k is = subst (λ (x : Reading). Allowed m n (given next x) (Rows rows) next) (sym is) (refl, refl)
 
--- a fault is answered as it is
-pub fault_answered : (f : Fault) → answered (refusal_of f) ≡ refusal_of f
-fault_answered fault.Memory = refl
-fault_answered fault.Io = refl
-fault_answered fault.NotADatabase = refl
-fault_answered (fault.Unsupported feature) = refl
-fault_answered (fault.Damaged damage page) = refl
-fault_answered fault.Full = refl
-fault_answered (fault.Syntax place) = refl
-fault_answered (fault.NoSuch kind name) = refl
-fault_answered (fault.Exists name) = refl
-fault_answered (fault.Ambiguous name) = refl
-fault_answered (fault.Misuse misuse) = refl
-fault_answered fault.Busy = refl
-fault_answered fault.StaleSnapshot = refl
-fault_answered fault.NoTransaction = refl
-fault_answered fault.InTransaction = refl
-fault_answered fault.NoSavepoint = refl
-fault_answered fault.NotNull = refl
-fault_answered fault.Unique = refl
-fault_answered fault.Check = refl
-fault_answered (fault.Raised text) = refl
-fault_answered fault.RealRefused = refl
-fault_answered fault.TypeRefused = refl
-fault_answered fault.RowidFull = refl
-fault_answered fault.RowidMismatch = refl
-fault_answered fault.TooLong = refl
-fault_answered fault.RowChangedBefore = refl
-fault_answered fault.ViewReadOnly = refl
-fault_answered fault.Failed = refl
-fault_answered fault.Blank = refl
+pub given_refusal : (m next : Machine) (n : ℕ) (r : Refusal) (k : Reading) → k ≡ Meant (Err r) [] → Allowed m n (given next k) (Refused (answered r)) (left_by m n r)
+given_refusal m next n r k is = subst (λ (x : Reading). Allowed m n (given next x) (Refused (answered r)) (left_by m n r)) (sym is) (r, (0, omega arith, refl), refl, refl)
 
-pub given_refusal : (m next : Machine) (n : ℕ) (f : Fault) (k : Reading) → k ≡ Meant (Err (refusal_of f)) [] → Allowed m n (given next k) (Refused (refusal_of f)) m
-given_refusal m next n f k is =
-    subst (λ (x : Reading). Allowed m n (given next x) (Refused (refusal_of f)) m) (sym is)
-    (answered (refusal_of f), (0, omega arith, refl), ap (λ (r : Refusal). Refused r) (sym (fault_answered f)), refl)
-
-pub given_fault : (m next : Machine) (n : ℕ) (r : Refusal) (k : Reading) → Contains (faults k) r → Allowed m n (given next k) (Refused r) m
+pub given_fault : (m next : Machine) (n : ℕ) (r : Refusal) (k : Reading) → Contains (faults k) r → Allowed m n (given next k) (Refused (answered r)) (left_by m n r)
 given_fault m next n r (Meant a []) has = absurd (omega (arith, has.1))
 given_fault m next n r (Meant a (s ∷ rs)) has = (r, has, refl, refl)
 
@@ -149,24 +114,29 @@ module _ {D : Type 0} {g : Ghosts D} where
 
   -- ---- a call that answered
 
-  select_step : (c : Connections D g) (m : Machine) (shown : RepresentsRunning c m) (q : Query) (f : Fault) → (s : Sees c m) → Answered (read_on s.db q) (Err f) → StepSoFar m c.connection (statement.Select q) (Refused (refusal_of f)) m
-  select_step c m shown q f s (inl (inl memory)) = subst (λ (e : Fault). StepSoFar m c.connection (statement.Select q) (Refused (refusal_of e)) m) (sym memory)
-      (instead m c.connection (statement.Select q) refl shown.running shown.numbered _ (Refused refusal.Memory) (s.is q) (given_memory m s.next (read_on s.db q)))
-  select_step c m shown q f s (inl (inr io)) = subst (λ (e : Fault). StepSoFar m c.connection (statement.Select q) (Refused (refusal_of e)) m) (sym io)
-      (instead m c.connection (statement.Select q) refl shown.running shown.numbered _ (Refused refusal.Io) (s.is q) (given_io m s.next (read_on s.db q)))
+  -- a query's refusal, as it is answered, and what it leaves
+  abbrev Refuses : Connections D g → Machine → Query → Refusal → Type 0
+  Refuses c m q r = StepSoFar m c.connection (statement.Select q) (Refused (answered r)) (left_by m c.connection r)
+
+  select_step : (c : Connections D g) (m : Machine) (shown : RepresentsRunning c m) (q : Query) (f : Fault) → (s : Sees c m) → Answered (read_on s.db q) (Err f) → Refuses c m q (refusal_of f)
+  select_step c m shown q f s (inl (inl memory)) = subst (λ (e : Fault). Refuses c m q (refusal_of e)) (sym memory)
+      (instead m c.connection (statement.Select q) shown.running shown.numbered _ (Refused refusal.Memory) (s.is q) (given_memory m s.next (read_on s.db q)))
+  select_step c m shown q f s (inl (inr io)) = subst (λ (e : Fault). Refuses c m q (refusal_of e)) (sym io)
+      (instead m c.connection (statement.Select q) shown.running shown.numbered _ (Refused refusal.Io) (s.is q) (given_io m s.next (read_on s.db q)))
   select_step c m shown q f s (inr (inl has)) =
-      by_outcome m c.connection (statement.Select q) refl shown.running shown.numbered _ (Refused (refusal_of f)) m (s.is q) (given_fault m s.next c.connection (refusal_of f) (read_on s.db q) has)
+      by_outcome m c.connection (statement.Select q) shown.running shown.numbered _ (Refused (answered (refusal_of f))) (left_by m c.connection (refusal_of f)) (s.is q) (given_fault m s.next c.connection (refusal_of f) (read_on s.db q) has)
   select_step c m shown q f s (inr (inr refused)) =
-      by_outcome m c.connection (statement.Select q) refl shown.running shown.numbered _ (Refused (refusal_of f)) m (s.is q) (given_refusal m s.next c.connection f (read_on s.db q) refused)
+      by_outcome m c.connection (statement.Select q) shown.running shown.numbered _ (Refused (answered (refusal_of f))) (left_by m c.connection (refusal_of f)) (s.is q) (given_refusal m s.next c.connection (refusal_of f) (read_on s.db q) refused)
 
   -- a refused SELECT
   pub select_refused : (old new : Connections D g) (q : Query) (f : Fault) → SeesNewest old → OnlyReads old new
       → ((m : Machine) (db : Database) → RepresentsRunning old m → ShowsDatabase (seen_in old.transaction (files_of old)) (current_in old.catalog) db → Answered (read_on db q) (Err f)) → StepsOn old (statement.Select q) (Refused (refusal_of f)) new
-  select_refused old new q f base reads answered m shown =
+  select_refused old new q f base reads answers m shown =
       let s = sees old m shown base in
       record {
         next = m;
-        step = select_step old m shown q f s (answered m s.db shown s.stored);
+        step = subst (λ (b : Beside). StepSoFar m old.connection (statement.Select q) (Refused (answered (refusal_of f))) (left_by m b.connection (refusal_of f))) (sym reads.beside)
+            (select_step old m shown q f s (answers m s.db shown s.stored));
         shown = inr (still_shown old new m shown (reads.files shown.told) reads.beside reads.catalog reads.transaction);
         crash = crash_keeps old new m m shown (reads.files shown.told);
         renewed = λ more. not_longer m.history more;
@@ -188,7 +158,7 @@ module _ {D : Type 0} {g : Ghosts D} where
       crash_of next = crash_keeps old new m next shown (subst (ShowTheSame (files_of old)) (sym starts.files) (reads.files shown.told))
 
       step_of : (s : Sees old m) → StepSoFar m old.connection (statement.Select q) (Rows rows) s.next
-      step_of s = by_outcome m old.connection (statement.Select q) refl shown.running shown.numbered _ (Rows rows) s.next (s.is q) (given_rows m s.next old.connection rows (read_on s.db q) (answered m s.db shown s.stored))
+      step_of s = by_outcome m old.connection (statement.Select q) shown.running shown.numbered _ (Rows rows) s.next (s.is q) (given_rows m s.next old.connection rows (read_on s.db q) (answered m s.db shown s.stored))
 
       other_shown : (t : Transaction) → old.transaction ≡ t → is_begun t ≡ false → RepresentsRunning new m
       other_shown t is begun = still_shown mid new m mid_shown same_files starts.beside starts.catalog (starts.other (ap is_begun (reads.transaction ∙ is) ∙ begun))

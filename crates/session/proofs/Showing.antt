@@ -243,7 +243,7 @@ module _ {D : Type 0} {g : Ghosts D} where
       let is = rollback_outcome m c.connection Idle (shown.is ∙ k) in
       record {
         next = m;
-        step = by_outcome m c.connection statement.Rollback refl shown.running shown.numbered (RefusedBy (NoTransaction ∷ [])) (Refused NoTransaction) m is (NoTransaction, (0, omega arith, refl), refl, refl);
+        step = by_outcome m c.connection statement.Rollback shown.running shown.numbered (RefusedBy (NoTransaction ∷ [])) (Refused NoTransaction) m is (NoTransaction, (0, omega arith, refl), refl, refl);
         shown = inr shown;
         crash = as_shown c m (inr shown);
         renewed = λ more. not_longer m.history more;
@@ -255,7 +255,7 @@ module _ {D : Type 0} {g : Ghosts D} where
       let is = rollback_outcome m old.connection (InTransactionOf k.began k.points k.phase) (shown.is ∙ k.is) in
       record {
         next = with_connection m old.connection Idle;
-        step = by_outcome m old.connection statement.Rollback refl shown.running shown.numbered (Gives [] (with_connection m old.connection Idle)) (Rows []) (with_connection m old.connection Idle) is (refl, refl);
+        step = by_outcome m old.connection statement.Rollback shown.running shown.numbered (Gives [] (with_connection m old.connection Idle)) (Rows []) (with_connection m old.connection Idle) is (refl, refl);
         shown = inr (moved old new m Idle shown (subst (ShowTheSame (files_of old)) (sym gone.files) (the_same (files_of old) shown.told)) gone.beside (inl refl) (idle_now gone));
         crash = crash_keeps old new m (with_connection m old.connection Idle) shown (subst (ShowTheSame (files_of old)) (sym gone.files) (the_same (files_of old) shown.told));
         renewed = λ more. not_longer m.history more;
@@ -272,7 +272,7 @@ module _ {D : Type 0} {g : Ghosts D} where
       let is = begin_outcome mode m c.connection (InTransactionOf k.began k.points k.phase) (shown.is ∙ k.is) in
       record {
         next = m;
-        step = by_outcome m c.connection (statement.Begin mode) refl shown.running shown.numbered (RefusedBy (InTransaction ∷ [])) (Refused InTransaction) m is (InTransaction, (0, omega arith, refl), refl, refl);
+        step = by_outcome m c.connection (statement.Begin mode) shown.running shown.numbered (RefusedBy (InTransaction ∷ [])) (Refused InTransaction) m is (InTransaction, (0, omega arith, refl), refl, refl);
         shown = inr shown;
         crash = as_shown c m (inr shown);
         renewed = λ more. not_longer m.history more;
@@ -293,7 +293,7 @@ module _ {D : Type 0} {g : Ghosts D} where
       let next = with_connection m old.connection (InTransactionOf false [] NoSnapshot) in
       record {
         next = next;
-        step = by_outcome m old.connection (statement.Begin begins.Deferred) refl shown.running shown.numbered (Gives [] next) (Rows []) next is (refl, refl);
+        step = by_outcome m old.connection (statement.Begin begins.Deferred) shown.running shown.numbered (Gives [] next) (Rows []) next is (refl, refl);
         shown = inr (moved old new m (InTransactionOf false [] NoSnapshot) shown (subst (ShowTheSame (files_of old)) (sym begun.files) (the_same (files_of old) shown.told)) begun.beside (inl refl)
             (subst (λ (t : Transaction). IsTransaction (files_of new) new.catalog m.history t (InTransactionOf false [] NoSnapshot)) (sym begun.now)
             (begins_reading new.catalog (subst IsUnchanged (sym begun.catalog) was.0) (subst HasNoSavepoints (sym begun.catalog) was.1))));

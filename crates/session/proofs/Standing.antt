@@ -12,10 +12,12 @@ use Rattle.pager.specs.Maps.{pages_in}
 use Rattle.pager.specs.Views.{View}
 use Rattle.pager.proofs.Mapping.{count_to, maps_shown, shows_mapped}
 use Rattle.db_files.specs.Stands.{StandsFor}
-use Rattle.db_pages.specs.Language.{supported_language}
+use Rattle.db_pages.specs.Language.{language}
 use Rattle.db_pages.specs.Stored.{IsCounted}
 use Rattle.session.specs.Holding.{Hold, IsFound, StoreFiles}
 use Rattle.session.specs.Stored.{ShowsDatabase}
+use Rattle.catalog.proofs.Found.{finds_listed}
+use Rattle.query_bind.proofs.TriggerNames.{knows}
 use Rattle.db_pages.proofs.Standing.{stand_if_stored}
 use Rattle.session.proofs.StandingViews.{ShowsEach, few_frames, files_make}
 use Rattle.catalog.specs.Listed.{Listed}
@@ -49,8 +51,8 @@ module _ (log : List ℕ) (view : View) (commits : HasCommits view.page_size log
     view = files_make log view commits found shows_each;
     few = few_frames log view commits found shows_each found.head.page_size (pages_in view) (files_make log view commits found shows_each);
     served = within_limits found.head.page_size found.head_size;
-    stands = subst (λ (n : ℕ). StandsFor supported_language n (pages_in view) database) (sym found.head_size)
-        (stand_if_stored (pages_in view) view.page_size tables database shown.stored is_counted);
+    stands = subst (λ (n : ℕ). StandsFor language n (pages_in view) database) (sym found.head_size)
+        (stand_if_stored (knows finds_listed) (pages_in view) view.page_size tables database shown.stored is_counted);
   }
 
 -- The files hold the database that a view of them stores.

@@ -40,6 +40,7 @@ change_is_full (write.Drop kind name) = refl
 change_is_full (write.CreateTable sql d) = refl
 change_is_full (write.CreateIndex sql d) = refl
 change_is_full (write.CreateView sql d) = refl
+change_is_full (write.CreateTrigger sql d) = refl
 
 pub write_is_full : (w : Write) (s : Statement) → written w ≡ s → may_be_full s ≡ true
 write_is_full w s is = subst (λ (t : Statement). may_be_full t ≡ true) is (change_is_full w)
@@ -54,6 +55,7 @@ module _ {D : Type 0} {g : Ghosts D} where
   change_refused c (write.CreateTable sql d) s f is = subst (λ t. IsRefusedHere c t f) is (record { memory = λ memory. refl; full = λ m shown commit full. absurd cc })
   change_refused c (write.CreateIndex sql d) s f is = subst (λ t. IsRefusedHere c t f) is (record { memory = λ memory. refl; full = λ m shown commit full. absurd cc })
   change_refused c (write.CreateView sql d) s f is = subst (λ t. IsRefusedHere c t f) is (record { memory = λ memory. refl; full = λ m shown commit full. absurd cc })
+  change_refused c (write.CreateTrigger sql d) s f is = subst (λ t. IsRefusedHere c t f) is (record { memory = λ memory. refl; full = λ m shown commit full. absurd cc })
 
   pub changes_refused : {T : Type 0} (c : Connections D g) (w : Write) (s : Statement) (result : Result T Fault) → written w ≡ s → IfErr result (IsRefusedHere c s)
   changes_refused c w s (Ok x) is = tt

@@ -16,10 +16,12 @@ use Rattle.tree_table.proofs.LeafTrees.{root_there}
 use Rattle.catalog.specs.Database.{Database}
 use Rattle.db_files.specs.Files.{FilesStandFor}
 use Rattle.pager.specs.Views.{View, ViewHas}
-use Rattle.db_pages.specs.Language.{supported_language}
+use Rattle.db_pages.specs.Language.{language}
 use Rattle.db_pages.specs.Stored.{Stores}
 use Rattle.session.specs.Holding.{IsFound, StoreFiles}
 use Rattle.session.specs.Meaning.{HeldFilesAreStored}
+use Rattle.catalog.proofs.Found.{finds_listed}
+use Rattle.query_bind.proofs.TriggerNames.{knows}
 use Rattle.db_pages.proofs.StoredPages.{stored_if_standing}
 use Rattle.session.proofs.StandingViews.{ShowsEach, only_these}
 use Rattle.catalog.specs.Listed.{Listed}
@@ -52,7 +54,7 @@ heads_are (Some h) log n = heads_framed h log n
 
 -- ---- the view and what it stores
 
-module _ (db log : List ℕ) (database : Database) (stand : FilesStandFor supported_language db log database) where
+module _ (db log : List ℕ) (database : Database) (stand : FilesStandFor language db log database) where
   abbrev size : ℕ
   size = stand.header.page_size
 
@@ -87,7 +89,7 @@ module _ (db log : List ℕ) (database : Database) (stand : FilesStandFor suppor
   }
 
   stored : (tables : Listed) × Stores stand.pages size tables database
-  stored = stored_if_standing stand.pages size database stand.stands
+  stored = stored_if_standing (knows finds_listed) stand.pages size database stand.stands
 
   pub store_files : StoreFiles db log database
   store_files = record {

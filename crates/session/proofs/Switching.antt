@@ -14,12 +14,14 @@ use Rattle.session.specs.CopiedBack.{CopiesBack}
 use Rattle.session.specs.Crashes.{MayShow}
 use Rattle.session.specs.Holding.{HoldThroughout, IsSettled}
 use Rattle.session.specs.Machine.{Connection, Idle, InTransactionOf, Machine, NoSnapshot, Reply, connection, newest}
-use Rattle.session.specs.Representation.{AreParked, BeginsLog, Beside, CopiesAnswered, IsTransaction, RepresentsRunning, SeesNewest, ShowTheSame, StepsOn, StepsOver, StepsTo, Switches, TakesNewest, TradesWith, beside_in, has_no_snapshot, newest_tables, others_in, seats_in, transaction_of}
+use Rattle.session.specs.Representation.{AreParked, BeginsLog, Beside, CopiesAnswered, IsTransaction, RepresentsRunning, SeesNewest, ShowTheSame, StepsOn, StepsOver, Switches, TakesNewest, TradesWith, beside_in, has_no_snapshot, newest_tables, others_in, seats_in, transaction_of}
 use Rattle.session.specs.SavedTables.{Rebases, SavedTables, Savepoints, committed_in, rebased, savepoints_in}
 use Rattle.session.specs.Saving.{IsUnwritten, SavedAs, states_of}
 use Rattle.session.specs.Steps.{is_connection}
 use Rattle.session.specs.Stored.{ShowsDatabase}
+use Rattle.session.specs.Endings.{as_answered, once_answered}
 use Rattle.session.specs.Supported.{StepSoFar}
+use Rattle.session.proofs.EndedSteps.{AnswersTo}
 use Rattle.session.specs.declared.savepoints.SavedCatalogs.{SavedCatalogs}
 use Rattle.session.specs.declared.seats.Seat.{Seat}
 use Rattle.session.specs.declared.seats.Transaction.{Transaction}
@@ -208,7 +210,7 @@ module _ {D : Type 0} {g : Ghosts D} where
   -- ---- steps of the connections from before
 
   pub steps_over : (old mid new : Connections D g) (m : Machine) (n : ℕ) (s : Statement) (reply : Reply) → files_of mid ≡ files_of old → mid.connection ≡ n → transactions_of mid.parked.items ≡ transactions_of (others_in old n)
-      → CopiesAnswered mid.parked.items (files_of mid) s reply (files_of new) → StepsTo mid m s reply new → StepsOver old m n s reply new
+      → CopiesAnswered mid.parked.items (files_of mid) s reply (files_of new) → AnswersTo mid m s reply new → StepsOver old m n s reply new
   steps_over old mid new m n s reply files number others copied step = record {
     next = step.next;
     step = subst (λ k. StepSoFar m k s reply step.next) number step.step;
@@ -229,7 +231,7 @@ module _ {D : Type 0} {g : Ghosts D} where
       let step = steps m (shows m shown) in
       record {
         next = step.next;
-        step = subst (λ (b : Beside). StepSoFar m b.connection s reply step.next) beside step.step;
+        step = subst (λ (b : Beside). StepSoFar m b.connection s (as_answered reply) (once_answered step.next new.connection reply)) beside step.step;
         shown = step.shown;
         crash = subst (λ (l : Log D g). HoldThroughout (MayShow m step.next) l (files_of new)) files step.crash;
         renewed = subst (λ (b : Beside). BeginsLog b.parked (files_of old) m step.next (files_of new)) beside

@@ -8,6 +8,7 @@ use Rattle.sqlval.specs.declared.fault.Fault.TheVariants as fault
 use Rattle.sqlval.specs.declared.fault.Misuse.TheVariants as misuse
 use Rattle.sql_syntax.specs.declared.statement.Statement.{Statement}
 use Rattle.executor.specs.Forms.{answers_rows}
+use Rattle.executor.specs.Works.{Controlling, sort}
 use Rattle.wal.specs.declared.log.Log.{Log}
 use Rattle.session.specs.Calls.{IsCallOf, IsRefusedOnly}
 use Rattle.session.specs.ConnectionState.{HasCause, HasCauseIn, files_of, first_refusal, has_failed_in}
@@ -15,6 +16,7 @@ use Rattle.session.specs.Failing.{IsRefusedHere, MarksFailure, ReadsFiles, may_c
 use Rattle.session.specs.Limits.{may_be_full}
 use Rattle.session.specs.Representation.{StepsOn, Switches, done_reply}
 use Rattle.session.specs.declared.transactions.Connections.{Connections}
+use Rattle.session.proofs.EndedSteps.{control_answered}
 use Rattle.session.proofs.Executing.{done, done_copies, marks_switched, refused_first, refused_switched, steps_switched}
 use Rattle.session.proofs.Switching.{was_present}
 
@@ -83,10 +85,11 @@ module _ {D : Type 0} {g : Ghosts D} where
       as_refused (Err e) f is P there = subst (λ (x : Fault). P (Err x)) (sym is) there
 
   -- what the present connection does, once it is the present one
-  pub call_made : (old mid new : Connections D g) (n : ℕ) (s : Statement) (result : Result ⊤ Fault) → answers_rows s ≡ false → first_refusal (has_failed_in old) n ≡ done → Switches n old mid → StepsOn mid s (done_reply result) new
+  pub call_made : (old mid new : Connections D g) (n : ℕ) (s : Statement) (result : Result ⊤ Fault) → answers_rows s ≡ false → sort s ≡ Controlling → first_refusal (has_failed_in old) n ≡ done → Switches n old mid → StepsOn mid s (done_reply result) new
       → HasCauseIn (may_be_full s) result mid new → MarksFailure result mid new → IfErr result (IsRefusedHere mid s) → IsCallOf s old n result new
-  call_made old mid new n s result other first switch steps cause marks refused = record {
-    step = steps_switched old mid new n s (done_reply result) first switch (done_copies mid.parked.items (files_of mid) (files_of new) s (done_reply result) other) steps;
+  call_made old mid new n s result other controls first switch steps cause marks refused = record {
+    step = steps_switched old mid new n s (done_reply result) first switch (done_copies mid.parked.items (files_of mid) (files_of new) s (done_reply result) other)
+        (λ m shown. control_answered mid new m s result controls (steps m shown));
     cause = subst (λ (l : Log D g). HasCause (may_be_full s) result l (files_of new)) (was_present n old mid switch).files cause;
     marks = marks_switched old mid new n result switch marks;
     refused = refused_switched old mid n s result first switch refused;

@@ -17,12 +17,12 @@ use Rattle.session.specs.Saving.{in_transaction, states_of}
 use Rattle.session.specs.declared.savepoints.SavedCatalogs.{SavedCatalogs}
 use Rattle.pager.specs.Views.{View, newest_view, view_of}
 use Rattle.pager.specs.declared.writer.Writer.{Writer}
-use Rattle.session.specs.Supported.{CannotStore, StepSoFar, database_of}
-use Rattle.executor.specs.Forms.{is_supported}
+use Rattle.session.specs.Endings.{as_answered, once_answered}
+use Rattle.session.specs.Supported.{CannotMake, StepSoFar, database_of}
 use Rattle.session.specs.ConnectionState.{files_of, has_failed_in}
 use Rattle.session.specs.Machine.{Machine, Connection, Idle, InTransactionOf, NoSnapshot, Reads, SavepointState, Writes, Reply, Rows, Refused, connection, is_writing, last_place, newest}
-use Rattle.session.specs.Outcomes.{Outcome, outcome}
-use Rattle.executor.specs.Works.{Work, Makes, IsRefused, Undoes, Binds, Reaches, change_made}
+use Rattle.session.specs.Outcomes.{Outcome, answered, left_by, outcome}
+use Rattle.executor.specs.Works.{Work, Makes, IsRefused, Binds, Reaches, change_made}
 use Rattle.session.specs.Steps.{Allowed, after_commit, fails}
 use Rattle.session.specs.Stored.{ShowsDatabase}
 use Rattle.session.specs.Representation.{Beside, IsSnapshotOf, IsWritingIn, MayWrite, RepresentsRunning, IsTransaction, OnlyReads, ShowTheSame, StepsOn, StepsTo, beside_in, done_reply, has_no_snapshot, is_idle, is_reading, with_transaction}
@@ -55,19 +55,16 @@ use Rattle.catalog.specs.Listed.{Listed}
 alone_commits : (m : Machine) (n : ℕ) (made : Database) (w : Work) → Reaches w made → Allowed m n (alone m w) (Rows []) (after_commit m n made)
 alone_commits m n made (Makes db) is = (refl, inl (ap (after_commit m n) (sym is)))
 alone_commits m n made (IsRefused rs) is = absurd is
-alone_commits m n made (Undoes r) is = absurd is
 alone_commits m n made (Binds over ch w) is = inr (is.0, alone_commits m n made w is.1)
 
 alone_commits_failed : (m : Machine) (n : ℕ) (made : Database) (w : Work) → Reaches w made → Allowed m n (alone m w) (Rows []) (fails (after_commit m n made))
 alone_commits_failed m n made (Makes db) is = (refl, inr (ap (λ (d : Database). fails (after_commit m n d)) (sym is)))
 alone_commits_failed m n made (IsRefused rs) is = absurd is
-alone_commits_failed m n made (Undoes r) is = absurd is
 alone_commits_failed m n made (Binds over ch w) is = inr (is.0, alone_commits_failed m n made w is.1)
 
 alone_doubts : (m : Machine) (n : ℕ) (made : Database) (w : Work) → Reaches w made → Allowed m n (alone m w) (Refused refusal.Io) (doubted m made)
 alone_doubts m n made (Makes db) is = (refl, inr (ap (doubted m) (sym is)))
 alone_doubts m n made (IsRefused rs) is = absurd is
-alone_doubts m n made (Undoes r) is = absurd is
 alone_doubts m n made (Binds over ch w) is = inr (is.0, alone_doubts m n made w is.1)
 
 idle_now : (t : Transaction) → is_idle t ≡ true → t ≡ transaction.Idle
@@ -77,7 +74,7 @@ idle_now (transaction.Reading r) is = absurd (false≢true is)
 idle_now (transaction.Writing v) is = absurd (false≢true is)
 
 -- why a change was refused, as a step says it
-why_of : (s : Statement) (db : Database) (f : Fault) → IsChangeRefusal s db f → IsErrorCause (CannotStore s db) (change_made s db) f
+why_of : (s : Statement) (db : Database) (f : Fault) → IsChangeRefusal s db f → IsErrorCause (CannotMake s db) (change_made s db) f
 why_of s db f (inl out) = inl out
 why_of s db f (inr (inl why)) = inr (inl why)
 why_of s db f (inr (inr is)) = inr (inr (f, refl, is))
@@ -120,11 +117,12 @@ module _ {D : Type 0} {g : Ghosts D} where
 
   -- ---- refusals
 
-  refused : (old new : Connections D g) (m : Machine) (w : Write) (finish : Work → Outcome) → RepresentsRunning old m → ShowTheSame (files_of old) (files_of new) → RepresentsRunning new m → is_supported (written w) ≡ true → (ends : IsFinish m old.connection finish) (db : Database)
-      → database_of m (connection m old.connection) ≡ db → outcome m old.connection (written w) ≡ finish (change_made (written w) db) → (f : Fault) → IsErrorCause (CannotStore (written w) db) (change_made (written w) db) f → StepsTo old m (written w) (Refused (refusal_of f)) new
-  refused old new m w finish before same behind supported_forms ends db sees is f why = record {
+  refused : (old new : Connections D g) (m : Machine) (w : Write) (finish : Work → Outcome) → RepresentsRunning old m → ShowTheSame (files_of old) (files_of new) → beside_in new ≡ beside_in old → RepresentsRunning new m → (ends : IsFinish m old.connection finish) (db : Database)
+      → database_of m (connection m old.connection) ≡ db → outcome m old.connection (written w) ≡ finish (change_made (written w) db) → (f : Fault) → IsErrorCause (CannotMake (written w) db) (change_made (written w) db) f → StepsTo old m (written w) (Refused (refusal_of f)) new
+  refused old new m w finish before same beside behind ends db sees is f why = record {
     next = m;
-    step = refused_step m old.connection (written w) supported_forms before.running before.numbered finish ends (change_made (written w) db) is db sees f why;
+    step = subst (λ (b : Beside). StepSoFar m old.connection (written w) (Refused (answered (refusal_of f))) (left_by m b.connection (refusal_of f))) (sym beside)
+        (refused_step m old.connection (written w) before.running before.numbered finish ends (change_made (written w) db) is db sees f why);
     shown = inr behind;
     crash = crash_keeps old new m m before same;
     renewed = λ more. not_longer m.history more;
@@ -172,14 +170,14 @@ module _ {D : Type 0} {g : Ghosts D} where
   opens_reading old m shown x reads may = (_, opens_in old m shown x may (reads_on old m shown reads may))
 
   -- where page 1 isn't read, when out of memory or by a disk
-  pub not_begun : (old new : Connections D g) (x : Write) (f : Fault) → is_supported (written x) ≡ true → OnlyReads old new → ((m : Machine) → RepresentsRunning old m → (f ≡ fault.Memory) ⊎ (f ≡ fault.Io))
+  pub not_begun : (old new : Connections D g) (x : Write) (f : Fault) → OnlyReads old new → ((m : Machine) → RepresentsRunning old m → (f ≡ fault.Memory) ⊎ (f ≡ fault.Io))
       → ((m : Machine) → RepresentsRunning old m → (finish : Work → Outcome) × Opening old m x finish) → StepsOn old (written x) (Refused (refusal_of f)) new
-  not_begun old new x f supported_forms reads why opens m shown =
+  not_begun old new x f reads why opens m shown =
       let finish = (opens m shown).0 in
       let opened = (opens m shown).1 in
-      refused old new m x finish shown (reads.files shown.told) (still_shown old new m shown (reads.files shown.told) reads.beside reads.catalog reads.transaction) supported_forms opened.ends (newest m) opened.database opened.comes f (short (why m shown))
+      refused old new m x finish shown (reads.files shown.told) reads.beside (still_shown old new m shown (reads.files shown.told) reads.beside reads.catalog reads.transaction) opened.ends (newest m) opened.database opened.comes f (short (why m shown))
     where
-      short : (f ≡ fault.Memory) ⊎ (f ≡ fault.Io) → IsErrorCause (CannotStore (written x) (newest m)) (change_made (written x) (newest m)) f
+      short : (f ≡ fault.Memory) ⊎ (f ≡ fault.Io) → IsErrorCause (CannotMake (written x) (newest m)) (change_made (written x) (newest m)) f
       short out = inl (inl out)
 
   abbrev pub Started : Connections D g → Connections D g → Writer → Snapshot → Type 0
@@ -199,11 +197,11 @@ module _ {D : Type 0} {g : Ghosts D} where
 
   -- a writer that has begun sees the pages of the newest commit
   -- where the write after it is refused
-  pub begun_refused : (old mid after : Connections D g) (w : Writer) (s : Snapshot) (x : Write) (f : Fault) → is_supported (written x) ≡ true → mid.transaction ≡ old.transaction
+  pub begun_refused : (old mid after : Connections D g) (w : Writer) (s : Snapshot) (x : Write) (f : Fault) → mid.transaction ≡ old.transaction
       → ((m : Machine) → RepresentsRunning old m → Started old mid w s) → ((db : Database) → CanApply mid w db → IsNotApplied (written x) mid db after f)
       → ((m : Machine) → RepresentsRunning old m → (finish : Work → Outcome) × Opening old m x finish) → StepsOn old (written x) (Refused (refusal_of f)) after
-  begun_refused old mid after w s x f supported_forms beside starts applies opens m shown =
-      refused old after m x (opens m shown).0 shown same still supported_forms opened.ends (newest m) opened.database opened.comes f
+  begun_refused old mid after w s x f beside starts applies opens m shown =
+      refused old after m x (opens m shown).0 shown same (has.kept.beside ∙ start.beside) still opened.ends (newest m) opened.database opened.comes f
       (why_of (written x) (newest m) f has.why)
     where
       opened : Opening old m x (opens m shown).0
@@ -237,13 +235,13 @@ module _ {D : Type 0} {g : Ghosts D} where
     pub stands : IsOverTheSame begun marked
 
   -- the first write of a transaction
-  pub begun_writes : (old mid after : Connections D g) (w marked left : Writer) (s : Snapshot) (x : Write) → is_supported (written x) ≡ true → is_reading old.transaction ≡ true → MayWrite old
+  pub begun_writes : (old mid after : Connections D g) (w marked left : Writer) (s : Snapshot) (x : Write) → is_reading old.transaction ≡ true → MayWrite old
       → ((m : Machine) → RepresentsRunning old m → Started old mid w s) → IsMarkedFrom old w marked → ((db : Database) → CanApply mid marked db → IsApplied (written x) mid db after left)
       → marks_of left ≡ marks_of marked → IsOverTheSame marked left
       → StepsOn old (written x) (Rows []) (with_transaction after (transaction.Writing left))
-  begun_writes old mid after w marked left s x supported_forms reads may starts sets applies marks stands m shown = record {
+  begun_writes old mid after w marked left s x reads may starts sets applies marks stands m shown = record {
     next = working_on b m old.connection has.made;
-    step = by_outcome m old.connection (written x) supported_forms shown.running shown.numbered (working b m old.connection (change_made (written x) (newest m))) (Rows []) (working_on b m old.connection has.made) opened.comes (worked_gives b m old.connection has.made (change_made (written x) (newest m)) has.reaches);
+    step = by_outcome m old.connection (written x) shown.running shown.numbered (working b m old.connection (change_made (written x) (newest m))) (Rows []) (working_on b m old.connection has.made) opened.comes (worked_gives b m old.connection has.made (change_made (written x) (newest m)) has.reaches);
     shown = inr (moved old (with_transaction after (transaction.Writing left)) m (InTransactionOf b.by_savepoint b.points (Writes (last_place m) has.made)) shown
         same (has.kept.beside ∙ start.beside) (inr (free_of old m shown may.free))
         (record {
@@ -315,10 +313,10 @@ module _ {D : Type 0} {g : Ghosts D} where
   })
 
   -- a statement of its own, after its work
-  pub ended_alone : (old mid after new : Connections D g) (w left : Writer) (s : Snapshot) (x : Write) (result : Result ⊤ Fault) → is_supported (written x) ≡ true → is_idle old.transaction ≡ true → MayWrite old → mid.transaction ≡ old.transaction
+  pub ended_alone : (old mid after new : Connections D g) (w left : Writer) (s : Snapshot) (x : Write) (result : Result ⊤ Fault) → is_idle old.transaction ≡ true → MayWrite old → mid.transaction ≡ old.transaction
       → ((m : Machine) → RepresentsRunning old m → Started old mid w s) → ((db : Database) → CanApply mid w db → IsApplied (written x) mid db after left)
       → ((db was : Database) → has_failed_in after ≡ false → CanApply after left db → ShowsDatabase (newest_view (files_of after)) (committed_in after.catalog) was → EndsAlone after left db result new) → StepsOn old (written x) (done_reply result) new
-  ended_alone old mid after new w left s x result supported_forms idle may beside starts applies ends m shown = by_result result (ends has.made (newest m) (ap (λ (b : Beside). b.failed) left_beside ∙ shown.whole) has.applies newest_stored)
+  ended_alone old mid after new w left s x result idle may beside starts applies ends m shown = by_result result (ends has.made (newest m) (ap (λ (b : Beside). b.failed) left_beside ∙ shown.whole) has.applies newest_stored)
     where
       opened : Opening old m x (alone m)
       opened = opens_alone old m shown x old.transaction may refl idle shown.transaction
@@ -361,7 +359,7 @@ module _ {D : Type 0} {g : Ghosts D} where
           (other_catalog (files_of new) old.catalog new.catalog m old.transaction shown.present committed whole (gone.savepoints ∙ sym none_before)
           (still_transaction (files_of old) (files_of new) old.catalog m.history old.transaction shown.present same shown.transaction)))
 
-      short : (f : Fault) → IsCommitCause (files_of after) left f → IsErrorCause (CannotStore (written x) (newest m)) (change_made (written x) (newest m)) f
+      short : (f : Fault) → IsCommitCause (files_of after) left f → IsErrorCause (CannotMake (written x) (newest m)) (change_made (written x) (newest m)) f
       short f (inl memory) = inl (inl (inl memory))
       short f (inr full) = inl (inr full.0)
 
@@ -371,24 +369,24 @@ module _ {D : Type 0} {g : Ghosts D} where
           let committed = ended.0 in
           then_steps old committed new m next (written x) (copied_after committed new next (committed_shown old after committed m shown has.made worked left_beside ended.1 (ended.1.transaction ∙ is_alone) (free_of old m shown may.free)) (ended.1.transaction ∙ is_alone) ended.3)
           (commit_crashes old after committed m has.made shown worked newest_stored ended.2) (renewed_after old after committed new worked left_beside ended.1.renewed ended.3)
-          (by_outcome m old.connection (written x) supported_forms shown.running shown.numbered (alone m (change_made (written x) (newest m))) (Rows []) next opened.comes (alone_commits m old.connection has.made (change_made (written x) (newest m)) has.reaches))
-          (by_outcome m old.connection (written x) supported_forms shown.running shown.numbered (alone m (change_made (written x) (newest m))) (Rows []) (fails next) opened.comes (alone_commits_failed m old.connection has.made (change_made (written x) (newest m)) has.reaches))
+          (by_outcome m old.connection (written x) shown.running shown.numbered (alone m (change_made (written x) (newest m))) (Rows []) next opened.comes (alone_commits m old.connection has.made (change_made (written x) (newest m)) has.reaches))
+          (by_outcome m old.connection (written x) shown.running shown.numbered (alone m (change_made (written x) (newest m))) (Rows []) (fails next) opened.comes (alone_commits_failed m old.connection has.made (change_made (written x) (newest m)) has.reaches))
       by_result (Err f) (inl io) = record {
         next = doubted m has.made;
-        step = subst (λ (e : Fault). StepSoFar m old.connection (written x) (Refused (refusal_of e)) (doubted m has.made)) (sym io.io)
-            (by_outcome m old.connection (written x) supported_forms shown.running shown.numbered (alone m (change_made (written x) (newest m))) (Refused refusal.Io) (doubted m has.made) opened.comes (alone_doubts m old.connection has.made (change_made (written x) (newest m)) has.reaches));
+        step = subst (λ (e : Fault). StepSoFar m old.connection (written x) (as_answered (Refused (refusal_of e))) (once_answered (doubted m has.made) new.connection (Refused (refusal_of e)))) (sym io.io)
+            (by_outcome m old.connection (written x) shown.running shown.numbered (alone m (change_made (written x) (newest m))) (Refused refusal.Io) (doubted m has.made) opened.comes (alone_doubts m old.connection has.made (change_made (written x) (newest m)) has.reaches));
         shown = inl (io.failed, refl, doubt_left old after new m has.made shown worked newest_stored io.held f io);
         crash = doubt_crashes old after new m has.made shown worked newest_stored io.held;
         renewed = λ more. not_longer m.history more;
       }
-      by_result (Err f) (inr gone) = refused old new m x (alone m) shown (same_gone f gone) (dropped_shown f gone) supported_forms opened.ends (newest m) opened.database opened.comes f (short f gone.why)
+      by_result (Err f) (inr gone) = refused old new m x (alone m) shown (same_gone f gone) (gone.beside ∙ left_beside) (dropped_shown f gone) opened.ends (newest m) opened.database opened.comes f (short f gone.why)
 
   -- ---- a write of a transaction that writes
 
-  pub wrote_on : (mid after : Connections D g) (writer left : Writer) (w : Write) (result : Result ⊤ Fault) → is_supported (written w) ≡ true
+  pub wrote_on : (mid after : Connections D g) (writer left : Writer) (w : Write) (result : Result ⊤ Fault)
       → ((db : Database) → CanApply mid writer db → Applies (written w) mid writer db result after left) → IfErr result (λ f. now_of left ≡ now_of writer) → marks_of left ≡ marks_of writer → IsOverTheSame writer left
       → StepsOn (with_transaction mid (transaction.Writing writer)) (written w) (done_reply result) (with_transaction after (transaction.Writing left))
-  wrote_on mid after writer left w result supported_forms applies back marks over m shown = by_result result (applies t.db here) back
+  wrote_on mid after writer left w result applies back marks over m shown = by_result result (applies t.db here) back
     where
       old : Connections D g
       old = with_transaction mid (transaction.Writing writer)
@@ -425,7 +423,7 @@ module _ {D : Type 0} {g : Ghosts D} where
       by_result : (r : Result ⊤ Fault) → Applies (written w) mid writer t.db r after left → IfErr r (λ f. now_of left ≡ now_of writer) → StepsTo old m (written w) (done_reply r) (with_transaction after (transaction.Writing left))
       by_result (Ok done) has now = record {
         next = working_on b m old.connection has.made;
-        step = by_outcome m old.connection (written w) supported_forms shown.running shown.numbered (working b m old.connection (change_made (written w) t.db)) (Rows []) (working_on b m old.connection has.made) comes (worked_gives b m old.connection has.made (change_made (written w) t.db) has.reaches);
+        step = by_outcome m old.connection (written w) shown.running shown.numbered (working b m old.connection (change_made (written w) t.db)) (Rows []) (working_on b m old.connection has.made) comes (worked_gives b m old.connection has.made (change_made (written w) t.db) has.reaches);
         shown = inr (moved old (with_transaction after (transaction.Writing left)) m (in_transaction mid.catalog t.points (Writes (last_place m) has.made)) shown has.kept.files has.kept.beside
             (inr (lone_still old m shown (ap is_writing t.is))) (goes_on (in_transaction mid.catalog t.points (Writes (last_place m) has.made)) has.made refl has.kept has.applies));
         crash = crash_keeps old (with_transaction after (transaction.Writing left)) m (working_on b m old.connection has.made) shown has.kept.files;
@@ -433,9 +431,9 @@ module _ {D : Type 0} {g : Ghosts D} where
       }
       by_result (Err f) has now =
           let still = went_back (written w) mid after t.db writer left f now over here has in
-          refused old (with_transaction after (transaction.Writing left)) m w (working b m old.connection) shown has.kept.files
+          refused old (with_transaction after (transaction.Writing left)) m w (working b m old.connection) shown has.kept.files has.kept.beside
           (stays old (with_transaction after (transaction.Writing left)) m shown has.kept.files has.kept.beside (goes_on shown.present t.db t.is has.kept still))
-          supported_forms (finish_in b m old.connection) t.db (ap (database_of m) (shown.is ∙ t.is)) comes f
+          (finish_in b m old.connection) t.db (ap (database_of m) (shown.is ∙ t.is)) comes f
           (why_of (written w) t.db f has.why)
 
   -- a step of the connections with the transaction that they have

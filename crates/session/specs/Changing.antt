@@ -4,7 +4,7 @@ use Rattle.sqlval.specs.declared.fault.Fault.{Fault}
 use Rattle.disk.specs.declared.device.Disk.{Ghosts}
 use Rattle.sql_syntax.specs.declared.statement.Statement.{Statement}
 use Rattle.catalog.specs.Database.{Database}
-use Rattle.catalog.specs.Listed.{listed_in, Listed}
+use Rattle.catalog.specs.Listed.{listed_in}
 use Rattle.session.specs.SavedTables.{committed_in, current_in, savepoints_in}
 use Rattle.catalog.specs.declared.tables.Catalog.{Catalog}
 use Rattle.session.specs.declared.savepoints.SavedCatalogs.{SavedCatalogs}

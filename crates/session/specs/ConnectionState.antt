@@ -2,8 +2,7 @@
 use Rattle.std.specs.Prelude.{◌≡◌, ◌⊎◌, ◌<◌, ℕ, Bool, true, false, Result, Ok, Err, ◌==◌, ◌||◌, nat_lt, ⊤, IsTrue, if◌then◌else◌}
 use Rattle.disk.specs.declared.device.Disk.{Ghosts}
 use Rattle.sqlval.specs.declared.fault.Fault.{Fault}
-use Rattle.sqlval.specs.declared.fault.Fault.TheVariants.{Failed, Io, Misuse, Unsupported}
-use Rattle.sqlval.specs.declared.fault.Feature.TheVariants as feature
+use Rattle.sqlval.specs.declared.fault.Fault.TheVariants.{Failed, Io, Misuse}
 use Rattle.sqlval.specs.declared.fault.Misuse.TheVariants.{Connection}
 use Rattle.session.specs.declared.transactions.Connections.{Connections}
 use Rattle.pages.specs.Calls.{Causes}
@@ -22,10 +21,6 @@ first_refusal has_failed connection = if has_failed then Err Failed else (if con
 abbrev pub is_io : Fault → Bool
 is_io Io = true
 is_io _ = false
-
--- refused as a form that isn't supported yet
-abbrev pub AnswersUnsupported : {A : Type 0} → Result A Fault → Type 0
-AnswersUnsupported result = result ≡ Err (Unsupported feature.StatementForm)
 
 module _ {D : Type 0} {g : Ghosts D} where
   -- The counts of the two files' failed calls haven't fallen. A refusal has its cause: `Io` comes only where one of them rose, `Full` only

@@ -12,7 +12,7 @@ use Rattle.wal.specs.declared.log.Log.{Log}
 use Rattle.catalog.specs.Database.{Database}
 use Rattle.pager.specs.Views.{View, IsViewPage, newest_view}
 use Rattle.db_files.specs.Files.{FilesStandFor}
-use Rattle.db_pages.specs.Language.{supported_language}
+use Rattle.db_pages.specs.Language.{language}
 use Rattle.session.specs.Machine.{Machine}
 use Rattle.session.specs.Crashes.{MayShow}
 use Rattle.session.specs.Stored.{ShowsDatabase}
@@ -32,9 +32,9 @@ pub record IsFound (view : View) : Type 0 where
   pub header_is : IsHeader page header
   pub counted : MatchOption (counted_of header) (⊤) (λ count. count ≡ view.size)
 
--- The contents of a database file and its log hold this database: it is what they stand for, as far as it is supported so far.
+-- The contents of a database file and its log hold this database: it is what they stand for.
 abbrev pub Hold : List ℕ → List ℕ → Database → Type 0
-Hold db log database = FilesStandFor supported_language db log database
+Hold db log database = FilesStandFor language db log database
 
 -- The same by a view: the log's committed frames over the file's pages make one that opening finds, and it stores the database.
 pub record StoreFiles (db log : List ℕ) (database : Database) : Type 0 where

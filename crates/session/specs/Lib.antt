@@ -12,6 +12,7 @@ pub mod Seats
 pub mod Saving
 pub mod Writers
 pub mod CopiedBack
+pub mod Endings
 pub mod Representation
 pub mod Checkpoints
 pub mod Stored

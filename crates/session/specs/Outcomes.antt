@@ -12,17 +12,15 @@ use Rattle.sql_syntax.specs.declared.statement.Statement.{Statement}
 use Rattle.sql_syntax.specs.declared.statement.Statement.TheVariants as statement
 use Rattle.catalog.specs.Database.{Name, Database}
 use Rattle.query_names.specs.Checked.{Checked, Meant}
-use Rattle.executor.specs.Works.{Work, Makes, IsRefused, Undoes, Binds, Sort, Querying, Writing, Controlling, sort, read_on}
+use Rattle.executor.specs.Works.{Work, Makes, IsRefused, Binds, Sort, Querying, Writing, Controlling, sort, read_on}
 use Rattle.session.specs.Machine.{Machine, Connection, Idle, InTransactionOf, Phase, NoSnapshot, Reads, Writes, SavepointState, last_place, committed, newest, connection, with_connection, is_writing, another}
 
 -- what a statement comes to where memory, disk and room suffice
 pub data Outcome : Type 0 where
   -- these rows, and this state
   Gives : List (List Value) → Machine → Outcome
-  -- one of these, and nothing changes
+  -- one of these
   RefusedBy : List Refusal → Outcome
-  -- this refusal, and this state
-  Ends : Refusal → Machine → Outcome
   -- the database is committed and the connection idle; whether it is a statement of its own
   Commits : Bool → Database → Outcome
   Copies : CheckpointMode → Outcome
@@ -36,10 +34,15 @@ abbrev pub answered : Refusal → Refusal
 answered (RaisedRollback t) = Raised t
 answered r = r
 
+-- the machine after a refusal: RAISE(ROLLBACK) ends the connection's transaction, and every other leaves all as it was
+abbrev pub left_by : Machine → ℕ → Refusal → Machine
+left_by m c (RaisedRollback t) = with_connection m c Idle
+left_by m c r = m
+
 -- the rows, in this state
 abbrev pub given : Machine → Checked (Answer (List (List Value))) → Outcome
 given m (Meant a (r ∷ rs)) = RefusedBy (r ∷ rs)
-given m (Meant (Err r) []) = RefusedBy (answered r ∷ [])
+given m (Meant (Err r) []) = RefusedBy (r ∷ [])
 given m (Meant (Ok rows) []) = Gives rows m
 
 -- a query on what the connection sees; the first one takes the snapshot
@@ -55,14 +58,12 @@ read_outcome m c q (InTransactionOf b ss (Writes i db)) = given m (read_on db q)
 abbrev pub worked : Machine → ℕ → Bool → List SavepointState → ℕ → Work → Outcome
 worked m c b ss i (Makes db) = Gives [] (with_connection m c (InTransactionOf b ss (Writes i db)))
 worked m c b ss i (IsRefused rs) = RefusedBy rs
-worked m c b ss i (Undoes r) = Ends r (with_connection m c Idle)
 worked m c b ss i (Binds db ch w) = Bound db ch (worked m c b ss i w)
 
 -- in a statement of its own, what is made is committed
 abbrev pub worked_alone : Work → Machine → Outcome
 worked_alone (Makes db) m = Commits true db
 worked_alone (IsRefused rs) m = RefusedBy rs
-worked_alone (Undoes r) m = Ends r m
 worked_alone (Binds db ch w) m = Bound db ch (worked_alone w m)
 
 -- refused where another connection holds the write right

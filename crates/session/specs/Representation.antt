@@ -28,11 +28,11 @@ use Rattle.row_scan.specs.Rows.{values_of}
 use Rattle.pager.specs.Marks.{Changes, marks_of}
 use Rattle.pager.specs.Views.{View, Tells, newest_view, view_at, view_of}
 use Rattle.pager.specs.declared.writer.Writer.{Writer}
-use Rattle.executor.specs.Forms.{is_supported}
 use Rattle.session.specs.Supported.{StepSoFar}
 use Rattle.session.specs.Holding.{HoldThroughout, IsLeftBy, IsSettled}
 use Rattle.session.specs.ConnectionState.{files_of, has_failed_in}
 use Rattle.session.specs.CopiedBack.{CopiesBack, numbers_of}
+use Rattle.session.specs.Endings.{as_answered, once_answered, without_end}
 use Rattle.session.specs.Machine.{Machine, Connection, Idle, NoSnapshot, Phase, Reads, Writes, Reply, Rows, Refused, connection, is_writing, newest}
 use Rattle.session.specs.Steps.{is_connection}
 use Rattle.session.specs.Outcomes.{outcome}
@@ -213,10 +213,11 @@ module _ {D : Type 0} {g : Ghosts D} where
   abbrev pub Steps : Connections D g → ℕ → Statement → Reply → Connections D g → Type 0
   Steps old connection statement reply new = (m : Machine) → Represents old m → StepsOver old m connection statement reply new
 
-  -- the same of the present connection, where no commit has failed, except for what a checkpoint copies
+  -- The same of the present connection, where no commit has failed, except for what a checkpoint copies. Where the reply is RAISE(ROLLBACK) it is a
+  -- step once the connection has answered it, and has given its transaction up.
   pub record StepsTo (old : Connections D g) (m : Machine) (statement : Statement) (reply : Reply) (new : Connections D g) : Type 0 where
     pub next : Machine
-    pub step : StepSoFar m old.connection statement reply next
+    pub step : StepSoFar m old.connection statement (as_answered reply) (once_answered next new.connection reply)
     pub shown : Represents new next
     pub crash : HoldThroughout (MayShow m next) (files_of old) (files_of new)
     pub renewed : BeginsLog old.parked.items (files_of old) m next (files_of new)
@@ -224,9 +225,9 @@ module _ {D : Type 0} {g : Ghosts D} where
   abbrev pub StepsOn : Connections D g → Statement → Reply → Connections D g → Type 0
   StepsOn old statement reply new = (m : Machine) → RepresentsRunning old m → StepsTo old m statement reply new
 
-  -- the statement is supported, and comes to what COMMIT comes to
+  -- the statement comes to what COMMIT comes to
   abbrev pub CommitsBy : Connections D g → Statement → Type 0
-  CommitsBy c s = (is_supported s ≡ true) × ((m : Machine) → RepresentsRunning c m → outcome m c.connection s ≡ outcome m c.connection statement.Commit)
+  CommitsBy c s = (m : Machine) → RepresentsRunning c m → outcome m c.connection s ≡ outcome m c.connection statement.Commit
 
   -- the files were read at most: they show what they showed
   pub record ShowTheSame (old new : Log D g) : Type 0 where
@@ -259,6 +260,11 @@ module _ {D : Type 0} {g : Ghosts D} where
     pub idle : new.transaction ≡ transaction.Idle
     pub all : IsUnchanged new.catalog
     pub savepoints : HasNoSavepoints new.catalog
+
+  -- the transaction is given up where the fault ends it, and else all stays; the fault is answered as one that ends none
+  abbrev pub SettlesWhere : Bool → Fault → Connections D g → Fault → Connections D g → Type 0
+  SettlesWhere true f old answer new = (answer ≡ without_end f) × IsGivenUp old new
+  SettlesWhere false f old answer new = (answer ≡ f) × (new ≡ old)
 
   -- all transactions are given up
   pub record AreGivenUp (old new : Connections D g) : Type 0 where

@@ -9,7 +9,7 @@ use Rattle.sql_syntax.specs.declared.statement.Statement.{Statement}
 use Rattle.catalog.specs.Database.{Database}
 use Rattle.trigger.specs.Binding.{IsFault}
 use Rattle.session.specs.Machine.{Machine, Idle, Reply, Rows, Refused, with_connection, has_snapshot, another}
-use Rattle.session.specs.Outcomes.{Outcome, Gives, RefusedBy, Ends, Commits, Copies, Bound, outcome}
+use Rattle.session.specs.Outcomes.{Outcome, Gives, RefusedBy, Commits, Copies, Bound, answered, left_by, outcome}
 
 abbrev pub is_free : Refusal → Bool
 is_free Memory = true
@@ -35,8 +35,7 @@ number n = Int (pos n)
 -- what may be answered where this is the outcome
 abbrev pub Allowed : Machine → ℕ → Outcome → Reply → Machine → Type 0
 Allowed m c (Gives rows m') reply new = (reply ≡ Rows rows) × (new ≡ m')
-Allowed m c (RefusedBy rs) reply new = (r : Refusal) × Contains rs r × (reply ≡ Refused r) × (new ≡ m)
-Allowed m c (Ends r m') reply new = (reply ≡ Refused r) × (new ≡ m')
+Allowed m c (RefusedBy rs) reply new = (r : Refusal) × Contains rs r × (reply ≡ Refused (answered r)) × (new ≡ left_by m c r)
 -- the automatic checkpoint may fail
 Allowed m c (Commits alone db) (Rows rows) new = (rows ≡ []) × ((new ≡ after_commit m c db) ⊎ (new ≡ fails (after_commit m c db)))
 -- the commit may fail; then the database is in doubt, or surely lost
@@ -45,7 +44,7 @@ Allowed m c (Copies mode) (Rows rows) new =
     (n : ℕ) × (copied : ℕ) × (copied ≤ n) × (rows ≡ (number (if blocked mode m c then 1 else 0) ∷ number n ∷ number copied ∷ []) ∷ []) × (new ≡ m)
 Allowed m c (Copies mode) (Refused r) new = (r ≡ Io) × (new ≡ fails m)
 Allowed m c (Bound db ch o) reply new =
-    ((r : Refusal) × IsFault db ch r × (reply ≡ Refused r) × (new ≡ m))
+    ((r : Refusal) × IsFault db ch r × (reply ≡ Refused (answered r)) × (new ≡ left_by m c r))
     ⊎ ((r : Refusal) → IsFault db ch r → ⊥) × Allowed m c o reply new
 
 -- a failed call of a disk may stand in place of an answer and change nothing, but in a commit or a checkpoint

@@ -1,5 +1,4 @@
 -- Which database is seen in the pages of two files.
-use Rattle.std.specs.Prelude.{List}
 use Rattle.wal.specs.Sizes.{IsSizeWithinLimits}
 use Rattle.catalog.specs.Database.{Database}
 use Rattle.pager.specs.Maps.{pages_in}

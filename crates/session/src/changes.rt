@@ -5,7 +5,7 @@ ghost use Rattle.catalog.specs.Database.{Database};
 ghost use Rattle.pager.specs.Marks.{IsOverTheSame, marks_of};
 ghost use Rattle.pager.specs.Views.{Tells};
 ghost use Rattle.pager.specs.Writers.{makes_objects};
-ghost use Rattle.executor.specs.Forms.{WhereSupported};
+ghost use Rattle.executor.specs.Forms.{WhereKept};
 ghost use Rattle.executor.specs.Writes.{changes_objects, written};
 ghost use Rattle.session.specs.Changing.{CanChange, ChangesPages, MakesCatalog, listing};
 ghost use Rattle.session.specs.ConnectionState.{HasCause};
@@ -31,7 +31,7 @@ fn change_pages<D: Disk + Drop>(
 ) -> R<Option<Catalog>>
     ensures cause { HasCause true result log.old log.new }
     ensures reads { Tells log.old → ShowTheSame log.old log.new }
-    ensures applies { (db : Database) → WhereSupported (written write.entry)
+    ensures applies { (db : Database) → WhereKept (written write.entry)
         (CanChange (listing log.old catalog.now) writer.old db
         → MakesCatalog (written write.entry) (listing log.old catalog.now) writer.old db result
         log.new writer.new) }
@@ -60,7 +60,7 @@ pub fn apply<D: Disk + Drop>(
 ) -> R<()>
     ensures cause { HasCause true result log.old log.new }
     ensures reads { Tells log.old → ShowTheSame log.old log.new }
-    ensures applies { (db : Database) → WhereSupported (written write.entry)
+    ensures applies { (db : Database) → WhereKept (written write.entry)
         (CanChange (listing log.old catalog.old) writer.old db
         → ChangesPages (written write.entry) (listing log.old catalog.old) writer.old db result
         (listing log.new catalog.new) writer.new) }

@@ -6,7 +6,7 @@ mod calls;
 mod changes;
 mod checkpoints;
 mod commits;
-mod forms;
+mod endings;
 mod laws;
 mod marks;
 mod points;
@@ -19,7 +19,6 @@ mod writes;
 
 ghost use Rattle.session.specs.Laws.{LeavesOthers, RefusalsAddNothing};
 
-pub use forms::is_supported;
 pub use laws::stored_files_hold;
 pub use seats::Seats;
 pub use transactions::Connections;

@@ -4,7 +4,7 @@ ghost use Rattle.std.specs.List.{list_any};
 ghost use Rattle.std.specs.Prelude.{◌≡◌, OnOk, Ok, Err, IfErr, true, false, IsTrue, IsFalse};
 ghost use Rattle.sqlval.specs.declared.fault.Fault.TheVariants.{Memory};
 ghost use Rattle.pager.specs.Views.{Tells, newest_view};
-ghost use Rattle.executor.specs.Forms.{KeepsItsText, WhereSupported};
+ghost use Rattle.executor.specs.Forms.{KeepsItsText, WhereKept};
 ghost use Rattle.session.specs.Stored.{ShowsDatabase};
 ghost use Rattle.catalog.specs.Database.{Database};
 ghost use Rattle.catalog.specs.Listed.{Listed, listed_in};
@@ -14,7 +14,6 @@ ghost use Rattle.session.specs.Limits.{may_be_full};
 ghost use Rattle.session.specs.Failing.{IsRefusedFor, IsRefusedHere, MarksFailure, ReadsFiles, is_immediate};
 ghost use Rattle.executor.specs.Writes.{written};
 
-use crate::forms::is_supported;
 use crate::savepoints::SavedCatalogs;
 use crate::seats::{Seat, Seats, Transaction, any_holds_writer, give_up_seats, trade};
 use catalog::Catalog;
@@ -47,6 +46,7 @@ pub struct Connections<D: Disk + Drop> {
     pub(crate) buffer: Vec<u8>,
 }
 
+/// Refuses a form of a statement.
 fn unsupported_form<T>() -> R<T>
     ensures { result ≡ Err (Fault.Unsupported Feature.StatementForm) }
 {
@@ -62,7 +62,7 @@ impl<D: Disk + Drop> Connections<D> {
     ghost use Rattle.session.specs.Machine.{fresh};
     ghost use Rattle.sql_syntax.specs.declared.statement.BeginMode.TheVariants.{Deferred, Immediate};
     ghost use Rattle.sql_syntax.specs.declared.statement.Statement.TheVariants as statement;
-    ghost use Rattle.session.specs.ConnectionState.{AnswersUnsupported, HasCauseIn, files_of, first_refusal, has_failed_in};
+    ghost use Rattle.session.specs.ConnectionState.{HasCauseIn, files_of, first_refusal, has_failed_in};
 
     /// The connections of a database whose schema is read, all of them idle.
     pub fn new(alloc: Global, log: Log<D>, seats: Seats) -> Connections<D>
@@ -130,14 +130,11 @@ impl<D: Disk + Drop> Connections<D> {
         Ok(())
     }
 
-    /// Executes a statement on a connection that `check` doesn't refuse. A refused one changes nothing, except that `Io` of a
-    /// commit or a checkpoint may mark the engine as failed: then all is refused.
+    /// Executes a statement on a connection that `check` doesn't refuse. A refused one changes nothing, except that RAISE(ROLLBACK) gives
+    /// the connection's transaction up, and that `Io` of a commit or a checkpoint may mark the engine as failed: then all is refused.
     pub fn execute(&mut self, connection: u32, statement: &Statement) -> R<Rows>
         // `check` is the test.
         requires free { first_refusal (has_failed_in self.old) connection ≡ Ok tt }
-        // A form that isn't supported yet is refused as such, and changes nothing.
-        ensures unsupported { IsFalse (forms.is_supported statement.now) → AnswersUnsupported result
-            × (self.new ≡ self.old) }
         ensures cause { HasCauseIn (may_be_full statement.now) result self.old self.new }
         ensures marks { MarksFailure result self.old self.new }
         // Memory is short only where it is taken, and a COMMIT is refused as `Full` only past the limits.
@@ -148,11 +145,11 @@ impl<D: Disk + Drop> Connections<D> {
         ensures step { KeepsItsText statement.now
             → Steps self.old connection statement.now (rows_reply result) self.new }
     {
-        if !is_supported(statement) {
-            return unsupported_form();
-        }
         self.switch(connection);
-        self.serve(statement)
+        match self.serve(statement) {
+            Ok(rows) => Ok(rows),
+            Err(fault) => Err(self.settle(fault)),
+        }
     }
 
     /// Makes a connection the present one.
@@ -214,7 +211,7 @@ impl<D: Disk + Drop> Connections<D> {
         ensures copied { CopiesAnswered self.old.parked.items (files_of self.old) statement.now
             (rows_reply result) (files_of self.new) }
         ensures early { KeepsDisksWhereShort statement.now (files_of self.old) result (files_of self.new) }
-        ensures step { WhereSupported statement.now
+        ensures step { WhereKept statement.now
             (StepsOn self.old statement.now (rows_reply result) self.new) }
     {
         match statement {
@@ -231,7 +228,7 @@ impl<D: Disk + Drop> Connections<D> {
         ensures cause { HasCauseIn (may_be_full statement.now) result self.old self.new }
         ensures marks { MarksFailure result self.old self.new }
         ensures refused { IfErr result (IsRefusedHere self.old statement.now) }
-        ensures step { WhereSupported statement.now (forms.answers_rows statement.now ≡ false
+        ensures step { WhereKept statement.now (forms.answers_rows statement.now ≡ false
             → StepsOn self.old statement.now (done_reply result) self.new) }
     {
         match statement {
@@ -243,6 +240,7 @@ impl<D: Disk + Drop> Connections<D> {
             Statement::RollbackTo(name) => self.rollback_to_here(name),
             _ => match write_of(statement) {
                 Some(write) => self.write(write),
+                // (Every form without rows is one of these, or writes.)
                 None => unsupported_form(),
             },
         }

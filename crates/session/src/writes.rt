@@ -3,7 +3,7 @@
 ghost use Rattle.std.specs.Prelude.{◌≡◌, Ok, Err, IfErr, true, false};
 ghost use Rattle.pager.specs.Marks.{IsOverTheSame, marks_of, now_of};
 ghost use Rattle.pager.specs.Views.{newest_view};
-ghost use Rattle.executor.specs.Forms.{WhereSupported};
+ghost use Rattle.executor.specs.Forms.{WhereKept};
 ghost use Rattle.session.specs.Stored.{ShowsDatabase};
 ghost use Rattle.catalog.specs.Database.{Database};
 ghost use Rattle.session.specs.SavedTables.{committed_in};
@@ -32,7 +32,7 @@ impl<D: Disk + Drop> Connections<D> {
     pub(crate) fn write(&mut self, write: Write<'_>) -> R<()>
         ensures cause { HasCauseIn true result self.old self.new }
         ensures marks { MarksFailure result self.old self.new }
-        ensures step { WhereSupported (written write.entry)
+        ensures step { WhereKept (written write.entry)
             (StepsOn self.old (written write.entry) (done_reply result) self.new) }
     {
         match mem::replace(&mut self.transaction, Transaction::Idle) {
@@ -46,7 +46,7 @@ impl<D: Disk + Drop> Connections<D> {
     pub(crate) fn continue_writing(&mut self, writer: Writer, write: Write<'_>) -> R<()>
         ensures cause { HasCauseIn true result self.old self.new }
         ensures reads { ReadsFiles self.old self.new }
-        ensures step { WhereSupported (written write.entry)
+        ensures step { WhereKept (written write.entry)
             (StepsOn (with_transaction self.old (transaction.Writing writer)) (written write.entry)
             (done_reply result) self.new) }
     {
@@ -60,7 +60,7 @@ impl<D: Disk + Drop> Connections<D> {
     pub(crate) fn write_reading(&mut self, reading: Transaction, write: Write<'_>) -> R<()>
         ensures cause { HasCauseIn true result self.old self.new }
         ensures reads { ReadsFiles self.old self.new }
-        ensures step { WhereSupported (written write.entry) (is_reading reading ≡ true
+        ensures step { WhereKept (written write.entry) (is_reading reading ≡ true
             → StepsOn (with_transaction self.old reading) (written write.entry) (done_reply result) self.new) }
     {
         self.transaction = reading;
@@ -95,7 +95,7 @@ impl<D: Disk + Drop> Connections<D> {
     pub(crate) fn autocommit(&mut self, write: Write<'_>) -> R<()>
         ensures cause { HasCauseIn true result self.old self.new }
         ensures marks { MarksFailure result self.old self.new }
-        ensures step { WhereSupported (written write.entry) (is_idle self.old.transaction ≡ true
+        ensures step { WhereKept (written write.entry) (is_idle self.old.transaction ≡ true
             → StepsOn self.old (written write.entry) (done_reply result) self.new) }
     {
         if self.is_busy() {
@@ -109,7 +109,7 @@ impl<D: Disk + Drop> Connections<D> {
     pub(crate) fn write_alone(&mut self, write: Write<'_>) -> R<()>
         ensures cause { HasCauseIn true result self.old self.new }
         ensures marks { MarksFailure result self.old self.new }
-        ensures step { WhereSupported (written write.entry)
+        ensures step { WhereKept (written write.entry)
             (is_idle self.old.transaction ≡ true → MayWrite self.old
             → StepsOn self.old (written write.entry) (done_reply result) self.new) }
     {
@@ -142,7 +142,7 @@ impl<D: Disk + Drop> Connections<D> {
     pub(crate) fn start_writing(&mut self, write: Write<'_>) -> R<()>
         ensures cause { HasCauseIn true result self.old self.new }
         ensures reads { ReadsFiles self.old self.new }
-        ensures step { WhereSupported (written write.entry)
+        ensures step { WhereKept (written write.entry)
             (is_reading self.old.transaction ≡ true → MayWrite self.old
             → StepsOn self.old (written write.entry) (done_reply result) self.new) }
     {
@@ -159,7 +159,7 @@ impl<D: Disk + Drop> Connections<D> {
         ensures cause { HasCauseIn true result self.old self.new }
         ensures reads { ReadsFiles self.old self.new }
         ensures applies { (db : Database)
-            → WhereSupported (written write.entry) (CanApply self.old writer.old db
+            → WhereKept (written write.entry) (CanApply self.old writer.old db
             → Applies (written write.entry) self.old writer.old db result self.new writer.new) }
         ensures marks { marks_of writer.new ≡ marks_of writer.old }
         ensures stands { IsOverTheSame writer.old writer.new }
@@ -184,7 +184,7 @@ impl<D: Disk + Drop> Connections<D> {
         ensures cause { HasCauseIn true result self.old self.new }
         ensures reads { ReadsFiles self.old self.new }
         ensures applies { (db : Database)
-            → WhereSupported (written write.entry) (CanApply self.old writer.old db
+            → WhereKept (written write.entry) (CanApply self.old writer.old db
             → Applies (written write.entry) self.old writer.old db result self.new writer.new) }
         ensures marks { marks_of writer.new ≡ marks_of writer.old }
         ensures stands { IsOverTheSame writer.old writer.new }

@@ -13,7 +13,7 @@ mod value;
 
 pub use affinity::{Affinity, affinity_of, apply, numbers_are_shaped};
 pub use collation::{Collation, compare, compare_fields, order_is_total};
-pub use fault::{Damage, Fault, Feature, Misuse, Object, R};
+pub use fault::{Damage, Fault, Feature, Misuse, Object, R, RaisedText};
 pub use many::Many;
 pub use name::Name;
 pub use page_size::is_page_size;

@@ -69,8 +69,8 @@ pub fn put_detail(alloc: Global, out: &mut Vec<u8>, fault: &Fault) -> R<()> {
             let name = name.as_str();
             format!(in alloc; "name {name}\n")?
         }
-        Fault::Raised(text) => {
-            let text = text.as_str();
+        Fault::Raised(raised) => {
+            let text = raised.text.as_str();
             format!(in alloc; "name {text}\n")?
         }
         _ => return Ok(()),

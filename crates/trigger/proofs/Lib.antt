@@ -4,3 +4,4 @@ mod EffectRows
 mod OnlyTables
 mod Updating
 mod ReadOnlyViews
+pub mod ListedEvents

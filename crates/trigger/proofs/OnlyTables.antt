@@ -1,6 +1,7 @@
--- A database without triggers.
-use Rattle.std.proofs.Common.{◌≡◌, refl, sym, ap, subst, ◌∙◌, ℕ, zero, suc, ◌<◌, Bool, true, false, List, [], ◌∷◌, ◌++◌, Option, Some, None, Ok, Err, map, length, ℤ, pos, arith}
-use Rattle.std.specs.Prelude.{filter, flat_map, not, Contains}
+-- What sets no trigger off.
+use Rattle.std.proofs.Common.{◌≡◌, refl, sym, ap, subst, ◌∙◌, ℕ, zero, suc, ◌<◌, Bool, true, false, List, [], ◌∷◌, ◌++◌, Option, Some, None, Ok, Err, map, length, ℤ, pos, cond, arith}
+use Rattle.std.specs.List.{list_any}
+use Rattle.std.specs.Prelude.{◌&&◌, ◌||◌, filter, flat_map, not, Contains}
 use Rattle.std.proofs.lemmas.Bool.{false≢true}
 use Rattle.sqlval.specs.Names.{folded}
 use Rattle.sqlval.specs.Refusals.{Answer, Refusal, ◌then◌, NoSuch, all_answers, fold_answer}
@@ -9,9 +10,12 @@ use Rattle.sqlval.specs.declared.value.Value.TheVariants.{Int}
 use Rattle.sql_syntax.specs.declared.change.Delete.{Delete}
 use Rattle.sql_syntax.specs.declared.change.Insert.{Insert}
 use Rattle.sql_syntax.specs.declared.change.Change.TheVariants as statement
+use Rattle.sql_syntax.specs.declared.create.TriggerDefinition.{TriggerDefinition}
+use Rattle.sql_syntax.specs.declared.create.TriggerTime.{TriggerTime}
+use Rattle.sql_syntax.specs.declared.create.TriggerTime.TheVariants.{Before, After, InsteadOf}
 use Rattle.catalog.specs.Database as database
 use Rattle.catalog.specs.Database.{Name, Database, Object, ATable, AnIndex, AView, ATrigger, object, triggers_of, with_object}
-use Rattle.catalog.specs.Listed.{has_no_trigger, with_rows}
+use Rattle.catalog.specs.Listed.{with_rows}
 use Rattle.catalog.specs.declared.tables.Table.{Table}
 use Rattle.query_names.specs.Checked.{Checked, Meant, faults, known_then}
 use Rattle.query_names.specs.Readings.{holds}
@@ -24,26 +28,35 @@ use Rattle.row_change.specs.Agreement.{DeletesRows, DeletesSome, InsertsRows}
 use Rattle.row_change.specs.Choosing.{is_chosen, tested}
 use Rattle.row_change.specs.Changes.{Resolved, Deletes, Given, Inserts, no_outer, resolve_change}
 use Rattle.row_change.specs.Constraints.{table_of}
-use Rattle.row_change.specs.RowChanges.{delete_row, insert_row}
+use Rattle.row_change.specs.RowChanges.{Event, delete_row, insert_row, is_quiet, is_set_off}
 use Rattle.trigger.specs.Binding.{Aim, aim_of, faults_after, program_faults, program_scope, triggers_for}
 use Rattle.trigger.specs.Effects.{change_with, given_rows, programs, run_resolved}
 use Rattle.trigger.specs.Laws.{BindsAlone, DeleteTakesChosen, DeleteTakesRows, InsertAddsRows, InsertIsRefused, InsertOfNoneStays, SetsNothingOff}
-use Rattle.trigger.specs.Triggers.{Runner, fired}
+use Rattle.trigger.specs.Triggers.{Runner, fired, is_same_time, triggers_at}
 
-pub no_triggers : (db : Database) (name : Name) → has_no_trigger db ≡ true → triggers_of db name ≡ []
-no_triggers [] name h = refl
-no_triggers ((n, ATable t) ∷ db) name h = no_triggers db name h
-no_triggers ((n, AnIndex i) ∷ db) name h = no_triggers db name h
-no_triggers ((n, AView v) ∷ db) name h = no_triggers db name h
-no_triggers ((n, ATrigger t) ∷ db) name h = absurd (false≢true h)
+none_at : (time : TriggerTime) (event : Event) (ts : List (Name × TriggerDefinition)) → not (list_any (λ t. is_set_off t.1.event event) ts) ≡ true
+    → filter (λ t. is_same_time t.1.time time && is_set_off t.1.event event) ts ≡ []
+none_at time event [] quiet = refl
+none_at time event (t ∷ ts) quiet = by_test (is_same_time t.1.time time) (is_set_off t.1.event event) quiet (none_at time event ts)
+  where
+    by_test : (a b : Bool) → not (b || list_any (λ (t : Name × TriggerDefinition). is_set_off t.1.event event) ts) ≡ true
+        → (not (list_any (λ (t : Name × TriggerDefinition). is_set_off t.1.event event) ts) ≡ true → filter (λ (t : Name × TriggerDefinition). is_same_time t.1.time time && is_set_off t.1.event event) ts ≡ [])
+        → cond (a && b) (t ∷ filter (λ (t : Name × TriggerDefinition). is_same_time t.1.time time && is_set_off t.1.event event) ts) (filter (λ (t : Name × TriggerDefinition). is_same_time t.1.time time && is_set_off t.1.event event) ts) ≡ []
+    by_test a true h later = absurd (false≢true h)
+    by_test true false h later = later h
+    by_test false false h later = later h
+
+-- what sets nothing off has no trigger at any time
+pub quiet_at : (time : TriggerTime) (event : Event) (db : Database) (n : Name) → is_quiet event db n ≡ true → triggers_at time event db n ≡ []
+quiet_at time event db n quiet = none_at time event (triggers_of db n) quiet
 
 pub sets_nothing_off : SetsNothingOff
-sets_nothing_off run running time firing db only = rw (no_triggers db firing.target only) refl
+sets_nothing_off run running time firing db quiet = rw (quiet_at time firing.event db firing.target quiet) refl
 
 -- ---- binding
 
-none_for : (db : Database) (aim : Aim) → has_no_trigger db ≡ true → triggers_for db aim ≡ []
-none_for db aim only = rw (no_triggers db aim.target only) refl
+none_for : (db : Database) (aim : Aim) → is_quiet aim.event db aim.target ≡ true → triggers_for db aim ≡ []
+none_for db aim quiet = rw (quiet_at Before aim.event db aim.target quiet, quiet_at InsteadOf aim.event db aim.target quiet, quiet_at After aim.event db aim.target quiet) refl
 
 pub binds_alone : BindsAlone
 binds_alone db c r only = (to, λ p. (zero, p))

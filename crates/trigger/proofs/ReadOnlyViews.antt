@@ -1,22 +1,23 @@
--- Changes of views, where there is no trigger.
+-- Changes of views that set no trigger off.
 use Rattle.std.proofs.Common.{◌≡◌, refl, ap, ◌∙◌, ℕ, List, [], ◌∷◌, map, Option, Some, Err, true}
 use Rattle.sqlval.specs.Names.{folded}
-use Rattle.sqlval.specs.Refusals.{Answer, Refusal, ViewReadOnly}
+use Rattle.sqlval.specs.Refusals.{Answer, ViewReadOnly}
 use Rattle.sql_syntax.specs.declared.change.Change.{Change}
 use Rattle.sql_syntax.specs.declared.change.Change.TheVariants as statement
 use Rattle.sql_syntax.specs.declared.change.Delete.{Delete}
 use Rattle.sql_syntax.specs.declared.change.Insert.{Insert}
 use Rattle.sql_syntax.specs.declared.change.Update.{Update}
+use Rattle.sql_syntax.specs.declared.create.TriggerTime.TheVariants.{InsteadOf}
 use Rattle.catalog.specs.Database.{AView, Database, Name, View, object}
-use Rattle.catalog.specs.Listed.{has_no_trigger}
 use Rattle.query_names.specs.Checked.{Checked, Meant, both, faults, known_map, known_then, meant, ◌and_then◌}
 use Rattle.query_names.specs.Queries.{resolve_filter}
 use Rattle.query_names.specs.declared.scope.ScopeSource.{ScopeSource}
 use Rattle.query_terms.specs.Terms.{Term}
 use Rattle.row_change.specs.Changes.{Deletes, Given, Inserts, Resolved, Updates, insert_places, no_outer, resolve_change, resolve_given, resolve_sets, target, wanted}
+use Rattle.row_change.specs.RowChanges.{Deleting, Inserting, Updating, is_quiet}
 use Rattle.trigger.specs.Effects.{change, programs, run_resolved}
 use Rattle.trigger.specs.Laws.{ViewsAreReadOnly}
-use Rattle.trigger.proofs.OnlyTables.{no_triggers}
+use Rattle.trigger.proofs.OnlyTables.{quiet_at}
 
 -- what isn't refused is what it stands for
 known : {A : Type 0} (k : Checked A) → faults k ≡ [] → k ≡ Meant (meant k) []
@@ -35,15 +36,15 @@ meant_map : {A B : Type 0} (f : A → B) (k : Checked A) → meant (known_map f 
 meant_map f (Meant x rs) = refl
 
 -- of a view
-module _ (db : Database) (n : Name) (v : View) (quiet : has_no_trigger db ≡ true) (found : object db n ≡ Some (AView v)) where
-  inserts : (places : List ℕ) (given : Given) → run_resolved (programs 64) [] no_outer db (Inserts n places given) ≡ Err ViewReadOnly
-  inserts places given = rw found (rw (no_triggers db n quiet) refl)
+module _ (db : Database) (n : Name) (v : View) (found : object db n ≡ Some (AView v)) where
+  inserts : is_quiet Inserting db n ≡ true → (places : List ℕ) (given : Given) → run_resolved (programs 64) [] no_outer db (Inserts n places given) ≡ Err ViewReadOnly
+  inserts quiet places given = rw found (rw (quiet_at InsteadOf Inserting db n quiet) refl)
 
-  updates : (sets : List (ℕ × Term)) (set : List Name) (condition : Option Term) → run_resolved (programs 64) [] no_outer db (Updates n sets set condition) ≡ Err ViewReadOnly
-  updates sets set condition = rw found (rw (no_triggers db n quiet) refl)
+  updates : (sets : List (ℕ × Term)) (set : List Name) → is_quiet (Updating set) db n ≡ true → (condition : Option Term) → run_resolved (programs 64) [] no_outer db (Updates n sets set condition) ≡ Err ViewReadOnly
+  updates sets set quiet condition = rw found (rw (quiet_at InsteadOf (Updating set) db n quiet) refl)
 
-  deletes : (condition : Option Term) → run_resolved (programs 64) [] no_outer db (Deletes n condition) ≡ Err ViewReadOnly
-  deletes condition = rw found (rw (no_triggers db n quiet) refl)
+  deletes : is_quiet Deleting db n ≡ true → (condition : Option Term) → run_resolved (programs 64) [] no_outer db (Deletes n condition) ≡ Err ViewReadOnly
+  deletes quiet condition = rw found (rw (quiet_at InsteadOf Deleting db n quiet) refl)
 
 -- ---- a change whose names are known
 
@@ -84,14 +85,14 @@ read_only db (statement.Insert i) v quiet found none =
     let s = meant (target db i.table) in
     as_meant db (statement.Insert i) (Inserts (folded i.table) (meant (insert_places s i.columns)) (meant (resolve_given db no_outer (wanted s i.columns) i.source))) none
     (meant_then (target db i.table) (after_insert db i) ∙ of_insert db i s)
-    ∙ inserts db (folded i.table) v quiet found (meant (insert_places s i.columns)) (meant (resolve_given db no_outer (wanted s i.columns) i.source))
+    ∙ inserts db (folded i.table) v found quiet (meant (insert_places s i.columns)) (meant (resolve_given db no_outer (wanted s i.columns) i.source))
 read_only db (statement.Update u) v quiet found none =
     let s = meant (target db u.table) in
     as_meant db (statement.Update u) (as_update db u (meant (resolve_sets (s ∷ []) s u.assignments)) (meant (resolve_filter (s ∷ []) u.condition))) none
     (meant_then (target db u.table) (after_update db u) ∙ of_update db u s)
-    ∙ updates db (folded u.table) v quiet found (meant (resolve_sets (s ∷ []) s u.assignments)) (map (λ x. folded x.column) u.assignments) (meant (resolve_filter (s ∷ []) u.condition))
+    ∙ updates db (folded u.table) v found (meant (resolve_sets (s ∷ []) s u.assignments)) (map (λ x. folded x.column) u.assignments) quiet (meant (resolve_filter (s ∷ []) u.condition))
 read_only db (statement.Delete d) v quiet found none =
     let s = meant (target db d.table) in
     as_meant db (statement.Delete d) (Deletes (folded d.table) (meant (resolve_filter (s ∷ []) d.condition))) none
     (meant_then (target db d.table) (after_delete db d) ∙ of_delete db d s)
-    ∙ deletes db (folded d.table) v quiet found (meant (resolve_filter (s ∷ []) d.condition))
+    ∙ deletes db (folded d.table) v found quiet (meant (resolve_filter (s ∷ []) d.condition))

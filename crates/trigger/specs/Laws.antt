@@ -1,4 +1,4 @@
--- What a statement does to a database without triggers.
+-- What a statement does that sets no trigger off.
 use Rattle.std.specs.Prelude.{◌≡◌, ◌↔◌, ◌≤◌, ℕ, true, List, [], length, Option, Some, None, Ok, Err, All, Contains}
 use Rattle.sqlval.specs.Names.{folded}
 use Rattle.sqlval.specs.Refusals.{Refusal, ViewReadOnly, ◌then◌}
@@ -9,7 +9,7 @@ use Rattle.sql_syntax.specs.declared.change.Update.{Update}
 use Rattle.sql_syntax.specs.declared.change.Change.{Change}
 use Rattle.sql_syntax.specs.declared.change.Change.TheVariants as statement
 use Rattle.catalog.specs.Database.{Name, Database, ATable, AView, View, object, with_object}
-use Rattle.catalog.specs.Listed.{has_no_trigger, with_rows}
+use Rattle.catalog.specs.Listed.{with_rows}
 use Rattle.catalog.specs.Named.{IsNamed}
 use Rattle.catalog.specs.declared.tables.Table.{Table}
 use Rattle.query_names.specs.Checked.{Meant, faults}
@@ -21,22 +21,27 @@ use Rattle.row_change.specs.Changes.{Deletes, Given, Inserts, Updates, no_outer,
 use Rattle.row_change.specs.Choosing.{rows_left}
 use Rattle.row_change.specs.Constraints.{table_of}
 use Rattle.row_change.specs.Inserting.{rows_inserted}
+use Rattle.row_change.specs.RowChanges.{Deleting, Inserting, Updating, is_quiet}
 use Rattle.row_change.specs.Setting.{rows_set}
 use Rattle.trigger.specs.Binding.{IsFault, aim_of}
 use Rattle.trigger.specs.Effects.{change, given_rows}
 use Rattle.trigger.specs.Triggers.{Runner, fired}
 
--- nothing is set off where there is no trigger
+-- what sets no trigger off does nothing more
 abbrev pub SetsNothingOff : Type 0
 SetsNothingOff = (run : Runner) (running : List Name) → IsStill (fired run running)
 
+-- the change sets no trigger off
+abbrev pub SetsOffNothing : Database → Change → Type 0
+SetsOffNothing db c = is_quiet (aim_of c).event db (aim_of c).target ≡ true
+
 -- there, the refusals of binding a change are its own
 abbrev pub BindsAlone : Type 0
-BindsAlone = (db : Database) (c : Change) (r : Refusal) → has_no_trigger db ≡ true → IsFault db c r ↔ Contains (faults (resolve_change db no_outer c)) r
+BindsAlone = (db : Database) (c : Change) (r : Refusal) → SetsOffNothing db c → IsFault db c r ↔ Contains (faults (resolve_change db no_outer c)) r
 
 -- There, a change of a view is refused, where its names aren't.
 abbrev pub ViewsAreReadOnly : Type 0
-ViewsAreReadOnly = (db : Database) (c : Change) (v : View) → has_no_trigger db ≡ true → object db (aim_of c).target ≡ Some (AView v) → faults (resolve_change db no_outer c) ≡ []
+ViewsAreReadOnly = (db : Database) (c : Change) (v : View) → SetsOffNothing db c → object db (aim_of c).target ≡ Some (AView v) → faults (resolve_change db no_outer c) ≡ []
     → change db c ≡ Err ViewReadOnly
 
 -- There, an INSERT whose rows are refused is refused as they are.
@@ -55,7 +60,7 @@ InsertOfNoneStays = (db : Database) (i : Insert) (table : Table) (rows : List Ta
 -- are.
 abbrev pub InsertAddsRows : Type 0
 InsertAddsRows = (db : Database) (i : Insert) (table : Table) (rows : List TableRow) (places : List ℕ) (source : Given) (by_column : List (Option ℕ)) (given : List (List Value))
-    → has_no_trigger db ≡ true → HasIndexesOf db (folded i.table) table → table_of db (folded i.table) ≡ Ok (with_rows table rows) → are_rows (with_rows table rows) ≡ true
+    → is_quiet Inserting db (folded i.table) ≡ true → HasIndexesOf db (folded i.table) table → table_of db (folded i.table) ≡ Ok (with_rows table rows) → are_rows (with_rows table rows) ≡ true
     → resolve_change db no_outer (statement.Insert i) ≡ Meant (Inserts (folded i.table) places source) [] → given_rows db no_outer source ≡ Ok given
     → All (IsSetFor table by_column places) given → 1 ≤ length given
     → change db (statement.Insert i)
@@ -64,20 +69,20 @@ InsertAddsRows = (db : Database) (i : Insert) (table : Table) (rows : List Table
 -- A DELETE whose table is known and that has no condition leaves the table without rows.
 abbrev pub DeleteTakesRows : Type 0
 DeleteTakesRows = (db : Database) (d : Delete) (table : Table) (rows : List TableRow)
-    → has_no_trigger db ≡ true → IsNamed db → table_of db (folded d.table) ≡ Ok (with_rows table rows) → are_rows (with_rows table rows) ≡ true
+    → is_quiet Deleting db (folded d.table) ≡ true → IsNamed db → table_of db (folded d.table) ≡ Ok (with_rows table rows) → are_rows (with_rows table rows) ≡ true
     → resolve_change db no_outer (statement.Delete d) ≡ Meant (Deletes (folded d.table) None) []
     → change db (statement.Delete d) ≡ Ok (with_object db (folded d.table) (ATable (with_rows table [])))
 
 -- A DELETE whose table and condition are known leaves the rows for which the condition isn't true, or is refused as that is.
 abbrev pub DeleteTakesChosen : Type 0
 DeleteTakesChosen = (db : Database) (d : Delete) (table : Table) (rows : List TableRow) (condition : Term)
-    → has_no_trigger db ≡ true → IsNamed db → table_of db (folded d.table) ≡ Ok (with_rows table rows) → are_rows (with_rows table rows) ≡ true
+    → is_quiet Deleting db (folded d.table) ≡ true → IsNamed db → table_of db (folded d.table) ≡ Ok (with_rows table rows) → are_rows (with_rows table rows) ≡ true
     → resolve_change db no_outer (statement.Delete d) ≡ Meant (Deletes (folded d.table) (Some condition)) []
     → change db (statement.Delete d) ≡ (rows_left condition rows then λ left. Ok (with_object db (folded d.table) (ATable (with_rows table left))))
 
 -- An UPDATE whose table, columns, expressions and condition are known leaves what SET makes of the rows, or is refused as that is.
 abbrev pub UpdateSetsRows : Type 0
 UpdateSetsRows = (db : Database) (u : Update) (table : Table) (rows : List TableRow) (sets : List (ℕ × Term)) (set : List Name) (condition : Option Term)
-    → has_no_trigger db ≡ true → IsNamed db → HasIndexesOf db (folded u.table) table → table_of db (folded u.table) ≡ Ok (with_rows table rows) → are_rows (with_rows table rows) ≡ true
+    → is_quiet (Updating set) db (folded u.table) ≡ true → IsNamed db → HasIndexesOf db (folded u.table) table → table_of db (folded u.table) ≡ Ok (with_rows table rows) → are_rows (with_rows table rows) ≡ true
     → resolve_change db no_outer (statement.Update u) ≡ Meant (Updates (folded u.table) sets set condition) []
     → change db (statement.Update u) ≡ (rows_set table sets condition rows then λ now. Ok (with_object db (folded u.table) (ATable (with_rows table now))))

@@ -5,8 +5,6 @@ use Rattle.sqlval.specs.Names.{is_same_name}
 use Rattle.sqlval.specs.Refusals.{Answer, ◌then◌, fold_answer}
 use Rattle.sql_syntax.specs.Tree.{Tree}
 use Rattle.sql_syntax.specs.declared.create.TriggerDefinition.{TriggerDefinition}
-use Rattle.sql_syntax.specs.declared.create.TriggerEvent.{TriggerEvent}
-use Rattle.sql_syntax.specs.declared.create.TriggerEvent.TheVariants.{Insert, Delete, Update}
 use Rattle.sql_syntax.specs.declared.create.TriggerStatement.{TriggerStatement}
 use Rattle.sql_syntax.specs.declared.create.TriggerTime.{TriggerTime}
 use Rattle.sql_syntax.specs.declared.create.TriggerTime.TheVariants.{Before, After, InsteadOf}
@@ -17,7 +15,7 @@ use Rattle.query_names.specs.Readings.{holds}
 use Rattle.query_names.specs.declared.scope.ScopeSource.{ScopeSource}
 use Rattle.query_terms.specs.Values.{Row}
 use Rattle.row_change.specs.Changes.{Outer}
-use Rattle.row_change.specs.RowChanges.{Event, Inserting, Deleting, Updating, Firing}
+use Rattle.row_change.specs.RowChanges.{Event, Firing, is_set_off}
 
 -- ---- what a program sees
 
@@ -37,15 +35,7 @@ outer_of = outer_if true
 
 -- ---- which triggers
 
--- UPDATE OF is set off where SET names one of its columns
-abbrev is_set_off : TriggerEvent → Event → Bool
-is_set_off Insert Inserting = true
-is_set_off Delete Deleting = true
-is_set_off (Update None) (Updating set) = true
-is_set_off (Update (Some ns)) (Updating set) = list_any (λ n. list_any (is_same_name n) set) ns
-is_set_off _ _ = false
-
-abbrev is_same_time : TriggerTime → TriggerTime → Bool
+abbrev pub is_same_time : TriggerTime → TriggerTime → Bool
 is_same_time Before Before = true
 is_same_time After After = true
 is_same_time InsteadOf InsteadOf = true

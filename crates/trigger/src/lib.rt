@@ -1,12 +1,14 @@
 //! The effect of a statement that changes rows, with the triggers that it sets off, as definitions.
 #![tactic(auto)]
 
+mod events;
+
 ghost use Rattle.trigger.specs.Laws.{BindsAlone, DeleteTakesChosen, DeleteTakesRows, InsertAddsRows, InsertIsRefused, InsertOfNoneStays, SetsNothingOff, UpdateSetsRows, ViewsAreReadOnly};
 
+pub use events::{RowEvent, is_still};
 use row_change::{delete_takes_its_rows, insert_adds_its_rows, update_sets_its_rows};
 
-/// In a database without triggers none fires: an INSERT adds its rows, or is refused as they are,
-/// and a DELETE takes all rows out, or those for which its condition is true.
+/// Where no trigger is set off, an INSERT adds its rows, or is refused as they are, and a DELETE takes all rows out, or those for which its condition is true.
 pub fn only_tables_set_nothing_off()
     ensures still { SetsNothingOff }
     ensures binds { BindsAlone }
@@ -20,14 +22,14 @@ pub fn only_tables_set_nothing_off()
     delete_takes_its_rows();
 }
 
-/// In a database without triggers an UPDATE sets values in all rows, or in those for which its condition is true, or is refused as they are.
+/// Where no trigger is set off, an UPDATE sets values in all rows, or in those for which its condition is true, or is refused as they are.
 pub fn update_sets_off_nothing()
     ensures { UpdateSetsRows }
 {
     update_sets_its_rows();
 }
 
-/// In a database without triggers a change of a view is refused.
+/// Where no trigger is set off, a change of a view is refused.
 pub fn views_are_read_only()
     ensures { ViewsAreReadOnly }
 {}

@@ -1,7 +1,8 @@
 use Rattle.std.proofs.lemmas.Int.{to_z-of_z}
 use Rattle.std.proofs.Common.{rules, SFits, w64, sym, ◌∙◌}
 use Rattle.catalog.specs.Listed.{listed_in}
-use Rattle.db_load.proofs.SchemaTables.{memory_of, ok_is, parts_at, read_as, refused_alone, row_found, said}
+use Rattle.db_load.proofs.SchemaRows.{parts_at, read_as, row_found, said}
+use Rattle.db_load.proofs.SchemaTables.{memory_of, ok_is, refused_alone}
 use Rattle.db_load.proofs.adding.add_row.Goals as goal
 
 pub returns-in_err-found-clause-tells : goal.returns-in_err-found-clause-tells

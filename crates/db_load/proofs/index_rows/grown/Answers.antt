@@ -33,5 +33,5 @@ returns-clause-found c = λ is once.
     let names = c.in_ok-is_of_index_row.ensures.found in
     let d = c.in_ok-definition.definition.now in
     grown_found (listed_in c.args.catalog.now) c.in_ok-bound.bound.table.now _ c.args.row.now d c.with_index.result is.text is.text_is
-    (text_creates c.args.row.now c.args.statement.now found.0 (new.Index d) is found.1 found.2, refl) names
+    (text_creates c.args.row.now c.args.statement.now found.0 (new.Index d) is found.1 found.2) names
     (c.in_ok-bound.ensures.found once) c.in_ok-name.ensures refl refl refl (to_z-of_z w64 c.args.row.now.rowid fits) c.with_index.ensures)

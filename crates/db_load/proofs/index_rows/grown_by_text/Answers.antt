@@ -9,12 +9,12 @@ use Rattle.db_load.proofs.index_rows.grown_by_text.Goals as goal
 
 pub returns-in_err-statement-clause-tells : goal.returns-in_err-statement-clause-tells
 returns-in_err-statement-clause-tells c = λ table index tells can.
-    (let made : Create = record { sql = tells.creates.0.sql; object = new.Index tells.definition } in
+    (let made : Create = record { sql = tells.creates.sql; object = new.Index tells.definition } in
     passed_on (IsGrown (tables_of c.args.catalog.now) table index) c.from_residual.result c.in_err-statement.field-0.0 c.from_residual.ensures.1
-    (c.in_err-statement.ensures.tells (parsed.Create made) (within_text c.args.row.now tells.text (new.Index tells.definition) tells.text_is tells.creates.0)))
+    (c.in_err-statement.ensures.tells (parsed.Create made) (within_text c.args.row.now tells.text (new.Index tells.definition) tells.text_is tells.creates)))
 
 pub returns-clause-tells : goal.returns-clause-tells
 returns-clause-tells c = λ table index tells can.
-    (let made : Create = record { sql = tells.creates.0.sql; object = new.Index tells.definition } in
+    (let made : Create = record { sql = tells.creates.sql; object = new.Index tells.definition } in
     c.grown-table.ensures.tells table index tells made
-    (c.in_ok-statement.ensures.tells (parsed.Create made) (within_text c.args.row.now tells.text (new.Index tells.definition) tells.text_is tells.creates.0)) refl can)
+    (c.in_ok-statement.ensures.tells (parsed.Create made) (within_text c.args.row.now tells.text (new.Index tells.definition) tells.text_is tells.creates)) refl can)

@@ -9,12 +9,12 @@ use Rattle.db_load.proofs.schema.table_of.Goals as goal
 
 pub returns-in_err-statement-clause-tells : goal.returns-in_err-statement-clause-tells
 returns-in_err-statement-clause-tells c = λ table tells.
-    let made : Create = record { sql = tells.creates.0.sql; object = new.Table tells.definition } in
+    let made : Create = record { sql = tells.creates.sql; object = new.Table tells.definition } in
     passed_on (λ (found : Table). found ≡ bare table) c.from_residual.result c.in_err-statement.field-0.0 c.from_residual.ensures.1
-    (c.in_err-statement.ensures.tells (parsed.Create made) (within_text c.args.row.now tells.text (new.Table tells.definition) tells.text_is tells.creates.0))
+    (c.in_err-statement.ensures.tells (parsed.Create made) (within_text c.args.row.now tells.text (new.Table tells.definition) tells.text_is tells.creates))
 
 pub returns-clause-tells : goal.returns-clause-tells
 returns-clause-tells c = λ table tells.
-    let made : Create = record { sql = tells.creates.0.sql; object = new.Table tells.definition } in
+    let made : Create = record { sql = tells.creates.sql; object = new.Table tells.definition } in
     c.table_made-table.ensures.tells table tells made
-    (c.in_ok-statement.ensures.tells (parsed.Create made) (within_text c.args.row.now tells.text (new.Table tells.definition) tells.text_is tells.creates.0)) refl
+    (c.in_ok-statement.ensures.tells (parsed.Create made) (within_text c.args.row.now tells.text (new.Table tells.definition) tells.text_is tells.creates)) refl

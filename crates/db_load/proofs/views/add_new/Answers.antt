@@ -1,5 +1,6 @@
 use Rattle.catalog.specs.Listed.{listed_in}
-use Rattle.db_load.proofs.SchemaTables.{err_not_ok, view_added, view_listed}
+use Rattle.db_load.proofs.SchemaTables.{err_not_ok}
+use Rattle.db_load.proofs.TreelessRows.{view_added, view_listed}
 use Rattle.db_load.proofs.views.add_new.Goals as goal
 
 pub returns-in-Ok-clause-tells : goal.returns-in-Ok-clause-tells

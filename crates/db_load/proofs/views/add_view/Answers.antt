@@ -3,7 +3,8 @@ use Rattle.catalog.specs.Listed.{listed_in}
 use Rattle.catalog.specs.declared.tables.View.{View}
 use Rattle.db_pages.specs.Schema.{ViewTold}
 use Rattle.db_load.specs.Reading.{ReadsTold}
-use Rattle.db_load.proofs.SchemaTables.{memory_of, view_found}
+use Rattle.db_load.proofs.SchemaTables.{memory_of}
+use Rattle.db_load.proofs.TreelessRows.{view_found}
 use Rattle.db_load.proofs.views.add_view.Goals as goal
 
 pub returns-in_err-view-clause-tells : goal.returns-in_err-view-clause-tells

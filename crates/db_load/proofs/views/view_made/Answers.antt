@@ -7,7 +7,8 @@ use Rattle.catalog.specs.Listed.{names_listed}
 use Rattle.catalog.specs.declared.tables.View.{View}
 use Rattle.query_names.specs.Scopes.{is_doubled}
 use Rattle.db_load.specs.Loading.{IsOfRow}
-use Rattle.db_load.proofs.SchemaTables.{err_not_ok, view_is}
+use Rattle.db_load.proofs.SchemaTables.{err_not_ok}
+use Rattle.db_load.proofs.TreelessRows.{view_is}
 use Rattle.db_load.proofs.views.view_made.Goals as goal
 
 answered : (a b : View) → a ≡ b → ◌≡◌ {A = Result View Fault} (Ok a) (Ok b)

@@ -6,28 +6,29 @@ use Rattle.sql_syntax.specs.declared.create.Create.{Create}
 use Rattle.sql_syntax.specs.declared.create.NewObject.TheVariants as new
 use Rattle.sql_syntax.specs.declared.statement.Statement.TheVariants as parsed
 use Rattle.catalog.specs.declared.tables.View.{View}
-use Rattle.db_load.proofs.SchemaTables.{err_not_ok, ok_is, passed_on, view_told, within_text}
+use Rattle.db_load.proofs.SchemaTables.{err_not_ok, ok_is, passed_on, within_text}
+use Rattle.db_load.proofs.TreelessRows.{view_told}
 use Rattle.db_load.proofs.views.view_of.Goals as goal
 
 pub returns-in_err-statement-clause-tells : goal.returns-in_err-statement-clause-tells
 returns-in_err-statement-clause-tells c = λ view tells.
-    (let made : Create = record { sql = tells.creates.0.sql; object = new.View view.definition } in
+    (let made : Create = record { sql = tells.creates.sql; object = new.View view.definition } in
     passed_on (λ (found : View). found ≡ view) c.from_residual.result c.in_err-statement.field-0.0 c.from_residual.ensures.1
-    (c.in_err-statement.ensures.tells (parsed.Create made) (within_text c.args.row.now tells.text (new.View view.definition) tells.text_is tells.creates.0)))
+    (c.in_err-statement.ensures.tells (parsed.Create made) (within_text c.args.row.now tells.text (new.View view.definition) tells.text_is tells.creates)))
 
 pub returns-in_err-definition-clause-tells : goal.returns-in_err-definition-clause-tells
 returns-in_err-definition-clause-tells c = λ view tells.
-    (let made : Create = record { sql = tells.creates.0.sql; object = new.View view.definition } in
+    (let made : Create = record { sql = tells.creates.sql; object = new.View view.definition } in
     err_not_ok _ _
     (c.in_err-definition.ensures.tells made view.definition
-    (c.in_ok-statement.ensures.tells (parsed.Create made) (within_text c.args.row.now tells.text (new.View view.definition) tells.text_is tells.creates.0)) refl))
+    (c.in_ok-statement.ensures.tells (parsed.Create made) (within_text c.args.row.now tells.text (new.View view.definition) tells.text_is tells.creates)) refl))
 
 pub returns-clause-tells : goal.returns-clause-tells
 returns-clause-tells c = λ view tells.
-    (let made : Create = record { sql = tells.creates.0.sql; object = new.View view.definition } in
+    (let made : Create = record { sql = tells.creates.sql; object = new.View view.definition } in
     let same = ok_is _ _
     (c.in_ok-definition.ensures.tells made view.definition
-    (c.in_ok-statement.ensures.tells (parsed.Create made) (within_text c.args.row.now tells.text (new.View view.definition) tells.text_is tells.creates.0)) refl) in
+    (c.in_ok-statement.ensures.tells (parsed.Create made) (within_text c.args.row.now tells.text (new.View view.definition) tells.text_is tells.creates)) refl) in
     subst (λ (r : Result View Fault). IsOrMemory (λ found. found ≡ view) r) (sym (c.view_made.ensures.tells view tells same)) refl)
 
 pub returns-clause-found : goal.returns-clause-found

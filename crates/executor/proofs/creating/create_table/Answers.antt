@@ -13,7 +13,6 @@ pub returns-in_err-table-clause-made : goal.returns-in_err-table-clause-made
 returns-in_err-table-clause-made g c told text db held =
     let laws : Laws = record {
       lists = c.new_tables_are_listed.ensures;
-      quiet = c.other_rows_are_listed.ensures.quiet;
       named = c.named_databases_are_one.ensures.named;
       stand = c.table_trees_stand.ensures;
       give_way = c.trees_give_way.ensures;
@@ -25,7 +24,6 @@ pub returns-in_err-table-2-clause-made : goal.returns-in_err-table-2-clause-made
 returns-in_err-table-2-clause-made g c told text db held =
     let laws : Laws = record {
       lists = c.new_tables_are_listed.ensures;
-      quiet = c.other_rows_are_listed.ensures.quiet;
       named = c.named_databases_are_one.ensures.named;
       stand = c.table_trees_stand.ensures;
       give_way = c.trees_give_way.ensures;
@@ -38,7 +36,6 @@ pub returns-in_err-add_row-clause-made : goal.returns-in_err-add_row-clause-made
 returns-in_err-add_row-clause-made g c told text db held =
     let laws : Laws = record {
       lists = c.new_tables_are_listed.ensures;
-      quiet = c.other_rows_are_listed.ensures.quiet;
       named = c.named_databases_are_one.ensures.named;
       stand = c.table_trees_stand.ensures;
       give_way = c.trees_give_way.ensures;
@@ -73,7 +70,6 @@ pub returns-clause-made : goal.returns-clause-made
 returns-clause-made g c told text db held =
     let laws : Laws = record {
       lists = c.new_tables_are_listed.ensures;
-      quiet = c.other_rows_are_listed.ensures.quiet;
       named = c.named_databases_are_one.ensures.named;
       stand = c.table_trees_stand.ensures;
       give_way = c.trees_give_way.ensures;

@@ -1,15 +1,17 @@
 use Rattle.std.proofs.Common.{◌≡◌, ◌∙◌, ap, map, length, false, rules}
+use Rattle.sql_syntax.specs.declared.change.Change.TheVariants as kind
 use Rattle.catalog.specs.Listed.{listed_in}
+use Rattle.trigger.specs.Laws.{SetsOffNothing}
 use Rattle.db_write.specs.Changing.{InsertsInTrees}
 use Rattle.executor.proofs.Insertions.{Laws, given_as, passed_on, places_long, put_makes, read_before, rows_refused, target_refused}
 use Rattle.executor.proofs.inserting.insert.Goals as goal
 use Rattle.executor.specs.Refusing.{is_view_named}
+use Rattle.executor.proofs.RefusedViews.{sets_off}
 
 pub returns-in_err-target-clause-made : goal.returns-in_err-target-clause-made
 returns-in_err-target-clause-made g c told db held =
     let laws : Laws = record {
       lists = c.other_rows_are_listed.ensures.lists;
-      quiet = c.other_rows_are_listed.ensures.quiet;
       named = c.named_databases_are_one.ensures.named;
       binds = c.only_tables_set_nothing_off.ensures.binds;
       refused = c.only_tables_set_nothing_off.ensures.refused;
@@ -17,15 +19,16 @@ returns-in_err-target-clause-made g c told db held =
       none = c.only_tables_set_nothing_off.ensures.none;
       indexes = c.listed_indexes_are_found.ensures;
     } in
+    let said = c.in_ok-expect_still.ensures.still held.rows_at db held.of_listed in
+    let still : SetsOffNothing db (kind.Insert c.args.insert.now) = search (rules, said) in
     let plain : is_view_named (listed_in c.args.catalog.now) c.args.insert.now.table ≡ false = search rules in
-    passed_on _ _ c.from_residual.result c.in_err-target.field-0.0 c.from_residual.ensures.1
-    (target_refused laws _ _ (listed_in c.args.catalog.now) db held c.args.insert.now plain c.in_err-target.field-0.0 c.in_err-target.ensures.refused)
+    passed_on _ _ c.from_residual-in_err-target.result c.in_err-target.field-0.0 c.from_residual-in_err-target.ensures.1
+    (target_refused laws _ _ (listed_in c.args.catalog.now) db held c.args.insert.now still plain c.in_err-target.field-0.0 c.in_err-target.ensures.refused)
 
 pub returns-in_err-rows-clause-made : goal.returns-in_err-rows-clause-made
 returns-in_err-rows-clause-made g c told db held =
     let laws : Laws = record {
       lists = c.other_rows_are_listed.ensures.lists;
-      quiet = c.other_rows_are_listed.ensures.quiet;
       named = c.named_databases_are_one.ensures.named;
       binds = c.only_tables_set_nothing_off.ensures.binds;
       refused = c.only_tables_set_nothing_off.ensures.refused;
@@ -33,10 +36,12 @@ returns-in_err-rows-clause-made g c told db held =
       none = c.only_tables_set_nothing_off.ensures.none;
       indexes = c.listed_indexes_are_found.ensures;
     } in
+    let said = c.in_ok-expect_still.ensures.still held.rows_at db held.of_listed in
+    let still : SetsOffNothing db (kind.Insert c.args.insert.now) = search (rules, said) in
     let plain : is_view_named (listed_in c.args.catalog.now) c.args.insert.now.table ≡ false = search rules in
     let target = c.in_ok-target.target in
     passed_on _ _ c.from_residual-in_err-rows.result c.in_err-rows.field-0.0 c.from_residual-in_err-rows.ensures.1
-    (rows_refused laws _ _ (listed_in c.args.catalog.now) db held c.args.insert.now plain target.table.now target.count c.in_ok-target.ensures.table c.in_ok-target.ensures.listed c.in_ok-target.ensures.count
+    (rows_refused laws _ _ (listed_in c.args.catalog.now) db held c.args.insert.now still plain target.table.now target.count c.in_ok-target.ensures.table c.in_ok-target.ensures.listed c.in_ok-target.ensures.count
     c.in_err-rows.field-0.0 (c.in_err-rows.ensures.given db told held))
 
 pub returns-clause-made : goal.returns-clause-made
@@ -48,7 +53,6 @@ returns-clause-made g c told db held =
     let l = listed_in c.args.catalog.now in
     let laws : Laws = record {
       lists = c.other_rows_are_listed.ensures.lists;
-      quiet = c.other_rows_are_listed.ensures.quiet;
       named = c.named_databases_are_one.ensures.named;
       binds = c.only_tables_set_nothing_off.ensures.binds;
       refused = c.only_tables_set_nothing_off.ensures.refused;
@@ -56,9 +60,11 @@ returns-clause-made g c told db held =
       none = c.only_tables_set_nothing_off.ensures.none;
       indexes = c.listed_indexes_are_found.ensures;
     } in
+    let said = c.in_ok-expect_still.ensures.still held.rows_at db held.of_listed in
+    let still : SetsOffNothing db (kind.Insert c.args.insert.now) = search (rules, said) in
     let plain : is_view_named (listed_in c.args.catalog.now) c.args.insert.now.table ≡ false = search rules in
     let given = c.in_ok-rows.ensures.given db told held in
-    let is = given_as laws _ _ l db held i plain t target.count c.in_ok-target.ensures.table c.in_ok-target.ensures.listed c.in_ok-target.ensures.count rows target.places.items
+    let is = given_as laws _ _ l db held i still plain t target.count c.in_ok-target.ensures.table c.in_ok-target.ensures.listed c.in_ok-target.ensures.count rows target.places.items
     c.in_ok-target.ensures.places given c.in_ok-rows.ensures.wide in
     let long : length target.places.items ≡ length t.columns = ap length c.in_ok-target.ensures.places ∙ places_long t.columns i.columns in
     let pages = g.P.Pages in
@@ -66,7 +72,15 @@ returns-clause-made g c told db held =
     let new = pages.map c.insert_rows.new.pages in
     let puts = read_before pages.below pages.tells pages.limits pages.map (λ old size. InsertsInTrees old new size t target.places.items rows c.insert_rows.result)
     c.args.pages.now c.given_rows.new.pages stays.kept stays.same c.insert_rows.ensures.inserted told in
-    put_makes laws _ _ l db held i t target.places.items rows c.in_ok-target.ensures.table is long new c.insert_rows.result puts
+    put_makes laws _ _ l db held i t target.places.items rows c.in_ok-target.ensures.table still is long new c.insert_rows.result puts
 
 pub returns-then-is_view-clause-made : goal.returns-then-is_view-clause-made
-returns-then-is_view-clause-made g c told db held = c.refuse_insert.ensures.refused held.rows_at db held.of_listed (search rules)
+returns-then-is_view-clause-made g c told db held =
+    let said = c.in_ok-expect_still.ensures.still held.rows_at db held.of_listed in
+    let still : SetsOffNothing db (kind.Insert c.args.insert.now) = search (rules, said) in
+    c.refuse_insert.ensures.refused held.rows_at db held.of_listed still (search rules)
+
+pub returns-in_err-expect_still-clause-made : goal.returns-in_err-expect_still-clause-made
+returns-in_err-expect_still-clause-made g c told db held =
+    passed_on _ _ c.from_residual.result c.in_err-expect_still.field-0.0 c.from_residual.ensures.1
+    (sets_off (kind.Insert c.args.insert.now) db c.in_err-expect_still.field-0.0 (c.in_err-expect_still.ensures.still held.rows_at db held.of_listed))

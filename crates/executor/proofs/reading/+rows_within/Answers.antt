@@ -1,4 +1,4 @@
-use Rattle.std.proofs.Common.{List, Ok, [], length, map, rules, subst, sym, ◌∷◌, ◌≡◌}
+use Rattle.std.proofs.Common.{List, Ok, [], length, map, refl, rules, subst, sym, ◌∷◌, ◌≡◌}
 use Rattle.std.proofs.lemmas.List.{nil_from_length}
 use Rattle.std.specs.Prelude.{⊤, Vec}
 use Rattle.std.specs.declared.alloc.Global.{Global}
@@ -112,7 +112,7 @@ loaded_rows-returns-clause-answered g t c told db stored placed known =
     let read : AreEnoughFor c.args.room db bound.reading c.in_ok-sources.sources.items =
     c.in_ok-sources.ensures.loaded told db stored (subst (λ (os : List Origin). ArePlaced (listed_in c.args.catalog.now) bound.reading.sources os) (sym c.as_slice-origins.ensures) placed) known in
     rows_answered (λ rows. map values_of rows.items) c.rows_are_loaded_beside_conditions.ensures c.args.room db bound.reading c.deref.result.now c.answer.result
-    (subst (λ (lists : List (List Row)). AreEnoughFor c.args.room db bound.reading lists) (sym c.deref.ensures.value) read) c.answer.ensures.answered
+    (subst (λ (lists : List (List Row)). AreEnoughFor c.args.room db bound.reading lists) (sym c.deref.ensures.value) read) (c.answer.ensures.answered [] refl refl tt)
 
 pub rows_within-returns-in-Some-clause-answered : goal.rows_within-returns-in-Some-clause-answered
 rows_within-returns-in-Some-clause-answered g t c told db stored placed known =

@@ -18,7 +18,7 @@ returns-in_err-bind_filter-clause-known c rows_at db lists =
     let scope : c.as_slice.result.now ≡ s ∷ [] = search rules in
     let named = rw (scope) at c.in_err-bind_filter.ensures.named in
     passed_on (resolve_change db no_outer (kind.Delete d)) c.from_residual-in_err-bind_filter.result c.in_err-bind_filter.field-0.0 c.from_residual-in_err-bind_filter.ensures.1
-    (delete_refused db d s at c.in_err-bind_filter.field-0.0 (named at.outside))
+    (delete_refused db d s at c.in_err-bind_filter.field-0.0 named)
 
 pub returns-clause-known : goal.returns-clause-known
 returns-clause-known c rows_at db lists =
@@ -27,4 +27,4 @@ returns-clause-known c rows_at db lists =
     let at = target_is db d.table s (c.in_ok-source.ensures.named rows_at db lists) in
     let scope : c.as_slice.result.now ≡ s ∷ [] = search rules in
     let filtered = rw (scope) at c.in_ok-bind_filter.ensures.named in
-    delete_known db d s at c.in_ok-bind_filter.field-0 (filtered at.outside)
+    delete_known db d s at c.in_ok-bind_filter.field-0 filtered

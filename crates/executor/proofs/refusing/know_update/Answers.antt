@@ -29,7 +29,7 @@ returns-in_err-bind_values-clause-known c rows_at db lists =
     let named = rw (scope) at c.in_err-bind_values.ensures.named in
     let values = rw (c.as_slice-assignments.ensures) at named in
     passed_on (resolve_change db no_outer (kind.Update u)) c.from_residual-in_err-bind_values.result c.in_err-bind_values.field-0.0 c.from_residual-in_err-bind_values.ensures.1
-    (values_refused db u s at c.in_err-bind_values.field-0.0 (values at.outside))
+    (values_refused db u s at c.in_err-bind_values.field-0.0 values)
 
 pub returns-in_err-bind_filter-clause-known : goal.returns-in_err-bind_filter-clause-known
 returns-in_err-bind_filter-clause-known c rows_at db lists =
@@ -39,7 +39,7 @@ returns-in_err-bind_filter-clause-known c rows_at db lists =
     let scope : c.as_slice-scope.result.now ≡ s ∷ [] = search rules in
     let named = rw (scope) at c.in_err-bind_filter.ensures.named in
     passed_on (resolve_change db no_outer (kind.Update u)) c.from_residual-in_err-bind_filter.result c.in_err-bind_filter.field-0.0 c.from_residual-in_err-bind_filter.ensures.1
-    (filter_refused db u s at c.in_err-bind_filter.field-0.0 (named at.outside))
+    (filter_refused db u s at c.in_err-bind_filter.field-0.0 named)
 
 pub returns-clause-known : goal.returns-clause-known
 returns-clause-known c rows_at db lists =
@@ -50,4 +50,4 @@ returns-clause-known c rows_at db lists =
     let scope : c.as_slice-scope.result.now ≡ s ∷ [] = search rules in
     let valued = rw (c.as_slice-assignments.ensures) at (rw (scope) at c.in_ok-bind_values.ensures.named) in
     let filtered = rw (scope) at c.in_ok-bind_filter.ensures.named in
-    update_known db u s at c.deref.result.now c.in_ok-bind_places.field-0.items c.in_ok-bind_values.field-0.items c.in_ok-bind_filter.field-0 names c.in_ok-bind_places.ensures.named (valued at.outside) (filtered at.outside)
+    update_known db u s at c.deref.result.now c.in_ok-bind_places.field-0.items c.in_ok-bind_values.field-0.items c.in_ok-bind_filter.field-0 names c.in_ok-bind_places.ensures.named valued filtered

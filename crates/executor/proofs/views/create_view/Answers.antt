@@ -1,11 +1,10 @@
 use Rattle.std.proofs.lemmas.Int.{to_z-of_z}
 use Rattle.std.proofs.Common.{rules, SFits, w64, ◌≡◌, ◌∙◌, ap, ap₂, ℤ, refl, sym, subst, inl, codes, true, Ok, Err, Some, List}
-use Rattle.sqlval.specs.declared.value.Value.{Value}
 use Rattle.sql_syntax.specs.declared.create.NewObject.TheVariants as object
 use Rattle.sql_syntax.specs.declared.create.ViewDefinition.{ViewDefinition}
 use Rattle.catalog.specs.Listed.{listed_in}
 use Rattle.catalog.specs.NewViews.{with_view}
-use Rattle.db_pages.specs.Schema.{CreatesSupported, schema_row}
+use Rattle.db_pages.specs.Schema.{schema_row}
 use Rattle.executor.specs.Listing.{AddsRow}
 use Rattle.executor.proofs.Creations.{handed_on, taken}
 use Rattle.executor.proofs.ViewCreations.{Laws, creates_it, none_at, refused_row, refused_view, schema_stand}
@@ -21,8 +20,8 @@ pub returns-in_err-kept_view-clause-made : goal.returns-in_err-kept_view-clause-
 returns-in_err-kept_view-clause-made g c told text db held =
     handed_on _ _ c.from_residual-in_err-kept_view.result c.in_err-kept_view.field-0.0 c.from_residual-in_err-kept_view.ensures.1 (inl (inl (inl (c.in_err-kept_view.ensures.kept c.args.definition.now text))))
 
-pub returns-in_err-add_row-clause-made : goal.returns-in_err-add_row-clause-made
-returns-in_err-add_row-clause-made g c told text db held =
+pub returns-in_err-add_treeless_row-clause-made : goal.returns-in_err-add_treeless_row-clause-made
+returns-in_err-add_treeless_row-clause-made g c told text db held =
     let laws : Laws = record { lists = c.views_come_and_go.ensures.new; names = c.listed_tables_are_found.ensures.names; stand = c.table_trees_stand.ensures; give_way = c.trees_give_way.ensures } in
     let l = listed_in c.args.catalog.now in
     let sql = c.args.sql.now in
@@ -30,14 +29,13 @@ returns-in_err-add_row-clause-made g c told text db held =
     let rowid = c.in_ok-rowid.rowid in
     let pages = g.P.Pages in
     let old = pages.map c.args.pages.now in
-    let new = pages.map c.add_row.new.pages in
+    let new = pages.map c.add_treeless_row.new.pages in
     let size = (pages.limits (pages.below c.args.pages.now)).page in
     let fits : SFits w64 rowid = search rules in
-    let f = c.in_err-add_row.field-0.0 in
+    let f = c.in_err-add_treeless_row.field-0.0 in
     let adds : AddsRow old new size rowid (schema_row (codes "view") d.name d.name 0 (Some sql)) (Err f) =
-    subst (λ (vs : List Value). AddsRow old new size rowid vs (Err f)) (c.deref.ensures.value ∙ c.in_ok-values.ensures.values)
-    (subst (λ z. AddsRow old new size z c.deref.result.now (Err f)) (to_z-of_z w64 rowid fits) (c.in_err-add_row.ensures.added told)) in
-    handed_on _ _ c.from_residual-in_err-add_row.result f c.from_residual-in_err-add_row.ensures.1
+    subst (λ z. AddsRow old new size z (schema_row (codes "view") d.name d.name 0 (Some sql)) (Err f)) (to_z-of_z w64 rowid fits) (c.in_err-add_treeless_row.ensures.added told) in
+    handed_on _ _ c.from_residual-in_err-add_treeless_row.result f c.from_residual-in_err-add_treeless_row.ensures.1
     (refused_row laws old size l db held sql d c.in_ok-check_view.ensures.new f (adds held.schema held.schema_used held.free (schema_stand laws old size l db held sql d) (none_at laws old size l db held sql d rowid c.in_ok-rowid.ensures.free)))
 
 pub returns-clause-made : goal.returns-clause-made
@@ -49,17 +47,16 @@ returns-clause-made g c told text db held =
     let rowid = c.in_ok-rowid.rowid in
     let pages = g.P.Pages in
     let old = pages.map c.args.pages.now in
-    let new = pages.map c.add_row.new.pages in
+    let new = pages.map c.add_treeless_row.new.pages in
     let size = (pages.limits (pages.below c.args.pages.now)).page in
     let fits : SFits w64 rowid = search rules in
     let none = none_at laws old size l db held sql d rowid c.in_ok-rowid.ensures.free in
     let adds : AddsRow old new size rowid (schema_row (codes "view") d.name d.name 0 (Some sql)) (Ok tt) =
-    subst (λ (vs : List Value). AddsRow old new size rowid vs (Ok tt)) (c.deref.ensures.value ∙ c.in_ok-values.ensures.values)
-    (subst (λ z. AddsRow old new size z c.deref.result.now (Ok tt)) (to_z-of_z w64 rowid fits) (c.in_ok-add_row.ensures.added told)) in
+    subst (λ z. AddsRow old new size z (schema_row (codes "view") d.name d.name 0 (Some sql)) (Ok tt)) (to_z-of_z w64 rowid fits) (c.in_ok-add_treeless_row.ensures.added told) in
     let added = adds held.schema held.schema_used held.free (schema_stand laws old size l db held sql d) none in
     let is : c.in_ok-kept_view.field-0 ≡ d = c.in_ok-kept_view.ensures.kept d text in
     taken _ _ _ c.with_view.result c.with_view.ensures.added c.with_view.ensures.refused
     (λ catalog listed.
-    creates_it laws old size l db held sql d c.in_ok-check_view.ensures.new (text, refl) new rowid c.in_ok-rowid.ensures.free added (listed_in catalog)
+    creates_it laws old size l db held sql d c.in_ok-check_view.ensures.new text new rowid c.in_ok-rowid.ensures.free added (listed_in catalog)
     (listed ∙ ap₂ (λ (x : ViewDefinition) (z : ℤ). with_view (record { definition = x; rowid = z }) l) is (to_z-of_z w64 rowid fits)))
     (inl (inl (inl refl)))

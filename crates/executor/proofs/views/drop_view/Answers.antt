@@ -1,10 +1,7 @@
-use Rattle.std.proofs.lemmas.Int.{to_z-of_z}
-use Rattle.std.proofs.Common.{rules, SFits, w64, ◌∙◌, ap, sym, subst, inl, Ok, Err}
+use Rattle.std.proofs.Common.{inl}
 use Rattle.catalog.specs.Listed.{listed_in}
-use Rattle.catalog.specs.NewViews.{less_view}
-use Rattle.executor.specs.Listing.{TakesSchemaRow}
 use Rattle.executor.proofs.Answering.{handed_on}
-use Rattle.executor.proofs.ViewDroppings.{Laws, drops, no_view, row_there, schema_stand}
+use Rattle.executor.proofs.ViewDroppings.{Laws, drops, no_view, rows_there, schema_stand}
 use Rattle.executor.proofs.views.drop_view.Goals as goal
 
 pub returns-in_err-view-clause-made : goal.returns-in_err-view-clause-made
@@ -12,21 +9,15 @@ returns-in_err-view-clause-made g c told db held =
     handed_on _ _ c.from_residual.result c.in_err-view.field-0.0 c.from_residual.ensures.1
     (no_view c.listed_tables_are_found.ensures.finds _ _ (listed_in c.args.catalog.now) db held c.args.name.now c.in_err-view.field-0.0 c.in_err-view.ensures.refused)
 
-pub returns-in_err-take_row-clause-made : goal.returns-in_err-take_row-clause-made
-returns-in_err-take_row-clause-made g c told db held =
+pub returns-in_err-take_view_rows-clause-made : goal.returns-in_err-take_view_rows-clause-made
+returns-in_err-take_view_rows-clause-made g c told db held =
     let laws : Laws = record { finds = c.listed_tables_are_found.ensures.finds; others = c.views_come_and_go.ensures.others; stand = c.table_trees_stand.ensures; give_way = c.trees_give_way.ensures } in
     let l = listed_in c.args.catalog.now in
     let n = c.args.name.now in
     let v = c.in_ok-view.view.now in
-    let pages = g.P.Pages in
-    let old = pages.map c.args.pages.now in
-    let mid = pages.map c.take_row.new.pages in
-    let size = (pages.limits (pages.below c.args.pages.now)).page in
-    let f = c.in_err-take_row.field-0.0 in
-    let fits : SFits w64 v.rowid = search rules in
-    let takes = subst (λ z. TakesSchemaRow old mid size z (Err f)) (to_z-of_z w64 v.rowid fits) (c.in_err-take_row.ensures.taken told) in
-    handed_on _ _ c.from_residual-in_err-take_row.result f c.from_residual-in_err-take_row.ensures.1
-    (inl (takes held.schema held.schema_used held.free (schema_stand laws old size l db held n v c.in_ok-view.ensures.found) (row_there laws old size l db held n v c.in_ok-view.ensures.found)))
+    let found = c.in_ok-view.ensures.found in
+    handed_on _ _ c.from_residual-in_err-take_view_rows.result c.in_err-take_view_rows.field-0.0 c.from_residual-in_err-take_view_rows.ensures.1
+    (inl (c.in_err-take_view_rows.ensures.taken told held.schema held.schema_used held.free (schema_stand laws _ _ l db held n v found) (rows_there laws _ _ l db held n v found)))
 
 pub returns-clause-made : goal.returns-clause-made
 returns-clause-made g c told db held =
@@ -35,11 +26,5 @@ returns-clause-made g c told db held =
     let n = c.args.name.now in
     let v = c.in_ok-view.view.now in
     let found = c.in_ok-view.ensures.found in
-    let pages = g.P.Pages in
-    let old = pages.map c.args.pages.now in
-    let mid = pages.map c.take_row.new.pages in
-    let size = (pages.limits (pages.below c.args.pages.now)).page in
-    let fits : SFits w64 v.rowid = search rules in
-    let takes = subst (λ z. TakesSchemaRow old mid size z (Ok tt)) (to_z-of_z w64 v.rowid fits) (c.in_ok-take_row.ensures.taken told) in
-    drops laws old size l db held n v found mid (takes held.schema held.schema_used held.free (schema_stand laws old size l db held n v found) (row_there laws old size l db held n v found)) (listed_in c.in_ok-left.left)
-    (c.in_ok-left.ensures.left ∙ ap (λ name. less_view name l) c.as_str.ensures)
+    drops laws _ _ l db held n v found (g.P.Pages.map c.take_view_rows.new.pages)
+    (c.in_ok-take_view_rows.ensures.taken told held.schema held.schema_used held.free (schema_stand laws _ _ l db held n v found) (rows_there laws _ _ l db held n v found)) (listed_in c.in_ok-left.left) c.in_ok-left.ensures.left

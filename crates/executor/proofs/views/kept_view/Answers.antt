@@ -1,12 +1,10 @@
-use Rattle.executor.proofs.KeptViews.{creating, is_view, unread}
+use Rattle.sql_syntax.specs.declared.create.NewObject.TheVariants as object
+use Rattle.executor.proofs.KeptTexts.{answered, passed}
 use Rattle.executor.proofs.views.kept_view.Goals as goal
 
-pub returns-in_err-parse-clause-kept : goal.returns-in_err-parse-clause-kept
-returns-in_err-parse-clause-kept c = λ d text.
-    (let only = rw (c.as_str.ensures) at c.in_err-parse.ensures.only in
-    unread d c.from_residual.result c.in_err-parse.field-0.0 (creating text.sql d) c.from_residual.ensures.1 (only (creating text.sql d) text.is text.within text.short))
+pub returns-in_err-kept_object-clause-kept : goal.returns-in_err-kept_object-clause-kept
+returns-in_err-kept_object-clause-kept c = λ d text.
+    passed d c.from_residual.result c.in_err-kept_object.field-0.0 c.from_residual.ensures.1 (c.in_err-kept_object.ensures.kept (object.View d) text)
 
 pub returns-clause-kept : goal.returns-clause-kept
-returns-clause-kept c = λ d text.
-    (let only = rw (c.as_str.ensures) at c.in_ok-parse.ensures.only in
-    is_view d text.sql c.in_ok-parse.field-0 c.view_in.result (only (creating text.sql d) text.is text.within text.short) (c.view_in.ensures.view text.sql d))
+returns-clause-kept c = λ d text. answered d c.defined_view.result (c.defined_view.ensures.view d (c.in_ok-kept_object.ensures.kept (object.View d) text))

@@ -7,8 +7,8 @@ use Rattle.query_bind.proofs.Grown.{item_refused}
 use Rattle.query_bind.proofs.clauses.bind_keys.Goals as goal
 
 pub returns-in_err-term : goal.returns-in_err-term
-returns-in_err-term c = λ outside.
+returns-in_err-term c =
     handed_on (λ keys. keys.items) (known_all (map (resolve false c.args.scope.now) c.args.trees.now)) c.in_err-term.field-0.0 c.from_residual.result c.from_residual.ensures.1
-    (subst (λ k. IsFaultOf (faults k) c.in_err-term.field-0.0) (c.trees.invariant outside)
+    (subst (λ k. IsFaultOf (faults k) c.in_err-term.field-0.0) c.trees.invariant
     (item_refused (resolve false c.args.scope.now) c.args.trees.now c.trees.tree-index c.tree-item.result c.trees.keys.items c.in_err-term.field-0.0
-    (omega (arith, c.trees-test.true)) c.tree-item.is (c.in_err-term.ensures outside)))
+    (omega (arith, c.trees-test.true)) c.tree-item.is c.in_err-term.ensures))

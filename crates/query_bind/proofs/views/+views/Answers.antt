@@ -92,7 +92,7 @@ pub bind_sources-returns-in_err-add_source-clause-named : goal.bind_sources-retu
 bind_sources-returns-in_err-add_source-clause-named t c =
     let look : Lookup = (columns_in c.args.room (listed_in c.args.catalog.now) c.args.around.now) in
     let first : Join = record { kind = join.Comma; source = c.in-Some.from.first; condition = None } in
-    let tables = subst AreTables (sym c.new.ensures.items) (refl, refl) in
+    let tables = subst AreTables (sym c.new.ensures.items) refl in
     let refused : IsFaultOf (faults (onto_source [] (resolve_source look [] join.Comma c.in-Some.from.first None))) c.in_err-add_source.field-0.0 =
     subst (λ js. IsFaultOf (faults (onto_source js (resolve_source look [] join.Comma c.in-Some.from.first None))) c.in_err-add_source.field-0.0) c.new-2.ensures.items
     (subst (λ ss. IsFaultOf (faults (onto_source c.new-2.result.items (resolve_source look ss join.Comma c.in-Some.from.first None))) c.in_err-add_source.field-0.0) c.new.ensures.items (c.in_err-add_source.ensures.named tables)) in
@@ -105,7 +105,7 @@ pub bind_sources-returns-in_err-add_joins-clause-named : goal.bind_sources-retur
 bind_sources-returns-in_err-add_joins-clause-named t c =
     let look : Lookup = (columns_in c.args.room (listed_in c.args.catalog.now) c.args.around.now) in
     let first : Join = record { kind = join.Comma; source = c.in-Some.from.first; condition = None } in
-    let tables = subst AreTables (sym c.new.ensures.items) (refl, refl) in
+    let tables = subst AreTables (sym c.new.ensures.items) refl in
     let named : onto_source [] (resolve_source look [] join.Comma c.in-Some.from.first None) ≡ Meant (c.add_source.new.found.scope.items, c.add_source.new.found.joined.items) [] =
     subst (λ js. onto_source js (resolve_source look [] join.Comma c.in-Some.from.first None) ≡ Meant (c.add_source.new.found.scope.items, c.add_source.new.found.joined.items) []) c.new-2.ensures.items
     (subst (λ ss. onto_source c.new-2.result.items (resolve_source look ss join.Comma c.in-Some.from.first None) ≡ Meant (c.add_source.new.found.scope.items, c.add_source.new.found.joined.items) []) c.new.ensures.items (c.in_ok-add_source.ensures.named tables)) in

@@ -1,11 +1,9 @@
 use Rattle.std.proofs.Common.{rules}
 use Rattle.sqlval.specs.Faults.{IsNotDiskFault}
-use Rattle.query_names.specs.Named.{IsOutside}
 use Rattle.query_names.proofs.BoundChecks.{checks_quiet}
 use Rattle.query_names.proofs.checks.bind_checks.Goals as goal
 
 pub returns-in_err-terms-clause-not_disk : goal.returns-in_err-terms-clause-not_disk
 returns-in_err-terms-clause-not_disk c =
-    let outside : IsOutside c.as_slice.result.now = search rules in
-    let quiet : IsNotDiskFault c.in_err-terms.field-0.0 = checks_quiet c.as_slice.result.now c.args.definition.now c.in_err-terms.field-0.0 (c.in_err-terms.ensures outside) in
+    let quiet : IsNotDiskFault c.in_err-terms.field-0.0 = checks_quiet c.as_slice.result.now c.args.definition.now c.in_err-terms.field-0.0 c.in_err-terms.ensures in
     search rules

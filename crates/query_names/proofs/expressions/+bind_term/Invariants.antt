@@ -2,7 +2,6 @@
 use Rattle.std.proofs.Common.{◌≡◌, ◌+◌, ◌*◌, drop, length}
 use Rattle.sql_syntax.specs.Tree.{size, size_in, trees}
 use Rattle.query_names.specs.Expressions.{count_of, resolve_all}
-use Rattle.query_names.specs.Named.{IsOutside}
 use Rattle.query_names.proofs.BoundLists.{onto}
 use Rattle.query_names.proofs.expressions.+bind_term.Given as goal
 
@@ -36,5 +35,5 @@ decreases-bind_all l = size_in (trees l.list.now) * 3
 -- what is left of the list decides
 abbrev pub invariant-bind_all-trees : goal.invariant-bind_all-trees
 invariant-bind_all-trees l =
-    (IsOutside l.scope → onto l.found.items (resolve_all l.totals l.scope (trees (drop l.tree-index l.list))) ≡ resolve_all l.totals l.scope (trees l.list))
+    (onto l.found.items (resolve_all l.totals l.scope (trees (drop l.tree-index l.list))) ≡ resolve_all l.totals l.scope (trees l.list))
     × (length l.found.items + count_of (trees (drop l.tree-index l.list)) ≡ count_of (trees l.list))

@@ -1,5 +1,5 @@
 use Rattle.std.proofs.Common.{subst}
-use Rattle.catalog.specs.Listed.{listed_in, Listed}
+use Rattle.catalog.specs.Listed.{listed_in}
 use Rattle.session.specs.Reading.{IsSightOf, view_by}
 use Rattle.session.specs.Stored.{ShowsDatabase}
 use Rattle.session.specs.declared.reads.Sight.{Sight}

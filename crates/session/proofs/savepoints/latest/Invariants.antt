@@ -1,6 +1,6 @@
 -- what is left of the savepoints, after the tables so far
 use Rattle.std.proofs.Common.{◌≡◌, drop}
-use Rattle.catalog.specs.Listed.{listed_in, Listed}
+use Rattle.catalog.specs.Listed.{listed_in}
 use Rattle.session.specs.SavedTables.{tables_after}
 use Rattle.session.proofs.savepoints.latest.Given as goal
 

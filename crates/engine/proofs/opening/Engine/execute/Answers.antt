@@ -1,16 +1,12 @@
-use Rattle.std.proofs.Common.{ap, subst, sym, IsFalse}
-use Rattle.sql_syntax.specs.declared.statement.Statement.{Statement}
-use Rattle.executor.specs.Forms as forms
+use Rattle.std.proofs.Common.{subst, sym}
 use Rattle.session.specs.Machine.{Reply}
 use Rattle.session.specs.Representation.{rows_reply}
 use Rattle.session.proofs.Executing.{refused_as}
-use Rattle.sql_parser.proofs.Grammar.{exact_statement}
-use Rattle.sql_parser.proofs.ParseLaws.{one_text}
 use Rattle.sqlval.specs.declared.fault.Fault.{Fault}
 use Rattle.sql_parser.specs.Refusals.{IsTextRefusal}
 use Rattle.engine.proofs.Marked.{check_not_io, for_any, nothing_called}
 use Rattle.engine.proofs.PastLimits.{past_of}
-use Rattle.engine.proofs.Refusing.{full_of, never_answered}
+use Rattle.engine.proofs.Refusing.{full_of}
 use Rattle.engine.specs.Representation.{StepsByText}
 use Rattle.engine.proofs.TextSteps.{executed, read_candidate, refused_check, refused_text, text_fault}
 use Rattle.engine.proofs.opening.Engine.execute.Goals as goal
@@ -36,12 +32,6 @@ returns-clause-full g c is =
       full_of _ c.execute-rows.result _ _ c.execute-rows.ensures.cause is,
       past_of _ c.args.connection statement c.execute-rows.result (sym c.in_ok-check.ensures) c.execute-rows.ensures.refused is,
     )
-
-pub returns-clause-unsupported : goal.returns-clause-unsupported
-returns-clause-unsupported g c = λ statement first is unsupported.
-    let same = one_text exact_statement c.args.text.now c.in_ok-statement.statement statement c.in_ok-statement.ensures.found.0 is in
-    let kept = c.execute-rows.ensures.unsupported (subst (λ (s : Statement). IsFalse (forms.is_supported s)) (sym same) unsupported) in
-    (never_answered c.execute-rows.result kept.0, ap (λ connections. record c.args.self.now { connections = connections }) kept.1)
 
 pub returns-in_err-check-clause-step : goal.returns-in_err-check-clause-step
 returns-in_err-check-clause-step g c =

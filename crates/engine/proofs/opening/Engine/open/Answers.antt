@@ -8,7 +8,7 @@ use Rattle.wal.specs.LogState.{LogState, db_of, state_of, log_of}
 use Rattle.db_header.specs.Header.{IsHeader}
 use Rattle.wal.specs.Opened.{CanOpen}
 use Rattle.wal.specs.Sizes.{IsSizeWithinLimits}
-use Rattle.catalog.specs.Listed.{listed_in, Listed}
+use Rattle.catalog.specs.Listed.{listed_in}
 use Rattle.session.specs.Seats.{catalog_in}
 use Rattle.pager.specs.Views.{Tells, newest_view}
 use Rattle.engine.specs.Creating.{is_blank_content}

@@ -1,7 +1,7 @@
 use Rattle.std.proofs.Common.{refl, sym, ap, ◌∙◌, false}
 use Rattle.std.specs.Prelude.{Vec}
 use Rattle.std.specs.declared.alloc.Global.{Global}
-use Rattle.catalog.specs.Listed.{listed_in, Listed}
+use Rattle.catalog.specs.Listed.{listed_in}
 use Rattle.catalog.specs.declared.tables.Catalog.{Catalog}
 use Rattle.std.specs.declared.rc.Rc.{Rc}
 use Rattle.session.specs.SavedTables.{Savepoints}

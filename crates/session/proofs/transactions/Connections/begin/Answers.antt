@@ -11,6 +11,6 @@ returns-in_err-turn_to g c =
 pub returns : goal.returns
 returns g c =
     record {
-      call = call_made c.args.self.now c.turn_to.new.self c.begin_here.new.self c.args.connection (statement.Begin begins.Deferred) c.begin_here.result refl c.in_ok-turn_to.ensures.free c.in_ok-turn_to.ensures.turned c.begin_here.ensures.step
+      call = call_made c.args.self.now c.turn_to.new.self c.begin_here.new.self c.args.connection (statement.Begin begins.Deferred) c.begin_here.result refl refl c.in_ok-turn_to.ensures.free c.in_ok-turn_to.ensures.turned c.begin_here.ensures.step
           c.begin_here.ensures.cause (reads_mark _ _ _ c.begin_here.ensures.reads) (memory_alone _ (statement.Begin begins.Deferred) c.begin_here.result refl c.begin_here.ensures.memory);
     }

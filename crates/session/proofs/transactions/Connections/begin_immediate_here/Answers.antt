@@ -1,4 +1,4 @@
-use Rattle.std.proofs.Common.{refl, sym, ap, subst, ◌∙◌}
+use Rattle.std.proofs.Common.{sym, ap, subst, ◌∙◌}
 use Rattle.session.specs.Machine.{Reply}
 use Rattle.session.specs.Representation.{StepsTo, done_reply, is_idle}
 use Rattle.sql_syntax.specs.declared.statement.BeginMode.TheVariants as begins
@@ -14,7 +14,7 @@ returns-then-is_busy-clause-step g c idle = begin_busy c.args.self.now idle (sym
 pub returns-in_err-take_newest-clause-step : goal.returns-in_err-take_newest-clause-step
 returns-in_err-take_newest-clause-step g c idle m shown =
     subst (λ (r : Reply). StepsTo c.args.self.now m (statement.Begin begins.Immediate) r c.take_newest.new.self) (sym (done_refused c.from_residual.result c.in_err-take_newest.field-0.0 c.from_residual.ensures.1))
-    (short_of c.args.self.now c.take_newest.new.self (statement.Begin begins.Immediate) c.in_err-take_newest.field-0.0 refl c.in_err-take_newest.ensures.refused.0 c.in_err-take_newest.ensures.refused.1 m shown)
+    (short_of c.args.self.now c.take_newest.new.self (statement.Begin begins.Immediate) c.in_err-take_newest.field-0.0 c.in_err-take_newest.ensures.refused.0 c.in_err-take_newest.ensures.refused.1 m shown)
 
 pub returns-clause-step : goal.returns-clause-step
 returns-clause-step g c idle =

@@ -19,7 +19,7 @@ returns-in_err-begin-clause-step g c room idle m shown =
     let short = c.in_err-begin.ensures.refused in
     subst (λ (r : Reply). StepsTo old m s r new) (sym (done_refused c.from_residual.result c.in_err-begin.field-0.0 c.from_residual.ensures.1))
     (subst (λ (e : Fault). StepsTo old m s (Refused (refusal_of e)) new) (sym short.0)
-    (out_of_memory old new s refl m shown (record { files = refl; beside = refl }) (still_so old new m shown (record { files = refl; beside = refl }) short.1 refl)))
+    (out_of_memory old new s m shown (record { files = refl; beside = refl }) (still_so old new m shown (record { files = refl; beside = refl }) short.1 refl)))
 
 pub returns-clause-step : goal.returns-clause-step
 returns-clause-step g c room idle m shown =

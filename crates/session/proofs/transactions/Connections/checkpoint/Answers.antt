@@ -21,7 +21,7 @@ pub returns-in_err-rows-clause-step : goal.returns-in_err-rows-clause-step
 returns-in_err-rows-clause-step g c m shown =
     let old = c.args.self.now in
     subst (λ (r : Reply). StepsTo old m (statement.Checkpoint c.args.mode) r old) (sym (refused_reply c.from_residual.result fault.Memory c.from_residual.ensures.1))
-    (out_of_memory old old (statement.Checkpoint c.args.mode) refl m shown (record { files = refl; beside = refl }) shown)
+    (out_of_memory old old (statement.Checkpoint c.args.mode) m shown (record { files = refl; beside = refl }) shown)
 
 pub returns-in_err-counts-clause-step : goal.returns-in_err-counts-clause-step
 returns-in_err-counts-clause-step g c =

@@ -10,6 +10,6 @@ returns-in_err-turn_to g c =
 pub returns : goal.returns
 returns g c =
     record {
-      call = call_made c.args.self.now c.turn_to.new.self c.commit_here.new.self c.args.connection statement.Commit c.commit_here.result refl c.in_ok-turn_to.ensures.free c.in_ok-turn_to.ensures.turned (c.commit_here.ensures.step statement.Commit (refl, λ m shown. refl))
+      call = call_made c.args.self.now c.turn_to.new.self c.commit_here.new.self c.args.connection statement.Commit c.commit_here.result refl refl c.in_ok-turn_to.ensures.free c.in_ok-turn_to.ensures.turned (c.commit_here.ensures.step statement.Commit (λ m shown. refl))
           c.commit_here.ensures.cause (c.commit_here.ensures.marks) (c.commit_here.ensures.refused);
     }

@@ -1,4 +1,4 @@
-use Rattle.std.proofs.Common.{sym, subst, List}
+use Rattle.std.proofs.Common.{sym, subst}
 use Rattle.session.specs.SavedTables.{current_in}
 use Rattle.pager.specs.Views.{View, view_at, view_of}
 use Rattle.session.specs.ConnectionState.{files_of}

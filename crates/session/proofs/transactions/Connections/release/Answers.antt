@@ -10,6 +10,6 @@ returns-in_err-turn_to g c =
 pub returns : goal.returns
 returns g c =
     record {
-      call = call_made c.args.self.now c.turn_to.new.self c.release_here.new.self c.args.connection (statement.Release c.args.name.now) c.release_here.result refl c.in_ok-turn_to.ensures.free c.in_ok-turn_to.ensures.turned c.release_here.ensures.step
+      call = call_made c.args.self.now c.turn_to.new.self c.release_here.new.self c.args.connection (statement.Release c.args.name.now) c.release_here.result refl refl c.in_ok-turn_to.ensures.free c.in_ok-turn_to.ensures.turned c.release_here.ensures.step
           c.release_here.ensures.cause (c.release_here.ensures.marks) (c.release_here.ensures.refused);
     }

@@ -10,7 +10,7 @@ returns-in_err-turn_to-clause-call g c =
 
 pub returns-clause-call : goal.returns-clause-call
 returns-clause-call g c =
-    call_made c.args.self.now c.turn_to.new.self c.rollback_here.new.self c.args.connection statement.Rollback c.rollback_here.result refl c.in_ok-turn_to.ensures.free c.in_ok-turn_to.ensures.turned c.rollback_here.ensures.step
+    call_made c.args.self.now c.turn_to.new.self c.rollback_here.new.self c.args.connection statement.Rollback c.rollback_here.result refl refl c.in_ok-turn_to.ensures.free c.in_ok-turn_to.ensures.turned c.rollback_here.ensures.step
     c.rollback_here.ensures.cause (reads_mark _ _ _ c.rollback_here.ensures.reads) (not_memory _ statement.Rollback fault.NoTransaction c.rollback_here.result refl (λ e. absurd cc) c.rollback_here.ensures.refused)
 
 pub returns-in_err-turn_to-clause-only : goal.returns-in_err-turn_to-clause-only

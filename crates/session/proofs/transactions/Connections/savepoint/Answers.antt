@@ -18,6 +18,6 @@ returns-in_err-turn_to g c =
 pub returns : goal.returns
 returns g c =
     record {
-      call = call_made c.args.self.now c.turn_to.new.self c.savepoint_here.new.self c.args.connection (statement.Savepoint c.args.name.now) c.savepoint_here.result refl c.in_ok-turn_to.ensures.free c.in_ok-turn_to.ensures.turned c.savepoint_here.ensures.step
+      call = call_made c.args.self.now c.turn_to.new.self c.savepoint_here.new.self c.args.connection (statement.Savepoint c.args.name.now) c.savepoint_here.result refl refl c.in_ok-turn_to.ensures.free c.in_ok-turn_to.ensures.turned c.savepoint_here.ensures.step
           c.savepoint_here.ensures.cause (reads_mark _ _ _ c.savepoint_here.ensures.reads) (memory_alone _ (statement.Savepoint c.args.name.now) c.savepoint_here.result refl (may_take c.savepoint_here.result));
     }

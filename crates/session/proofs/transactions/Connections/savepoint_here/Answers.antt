@@ -17,7 +17,7 @@ pub returns-in_err-copy-clause-step : goal.returns-in_err-copy-clause-step
 returns-in_err-copy-clause-step g c m shown =
     let old = c.args.self.now in
     let s = statement.Savepoint c.args.name.now in
-    subst (λ (r : Reply). StepsTo old m s r old) (sym (done_refused c.from_residual.result fault.Memory c.from_residual.ensures.1)) (out_of_memory old old s refl m shown (record { files = refl; beside = refl }) shown)
+    subst (λ (r : Reply). StepsTo old m s r old) (sym (done_refused c.from_residual.result fault.Memory c.from_residual.ensures.1)) (out_of_memory old old s m shown (record { files = refl; beside = refl }) shown)
 
 pub returns-in-Idle-clause-step : goal.returns-in-Idle-clause-step
 returns-in-Idle-clause-step g c =

@@ -1,4 +1,4 @@
-use Rattle.std.proofs.Common.{refl, sym, subst}
+use Rattle.std.proofs.Common.{sym, subst}
 use Rattle.session.specs.Machine.{Reply}
 use Rattle.session.specs.Representation.{StepsTo, rows_reply}
 use Rattle.sql_syntax.specs.declared.statement.Statement.TheVariants as statement
@@ -10,7 +10,7 @@ use Rattle.session.proofs.transactions.Connections.select.Goals as goal
 pub returns-in_err-take_newest-clause-step : goal.returns-in_err-take_newest-clause-step
 returns-in_err-take_newest-clause-step g c m shown =
     subst (λ (r : Reply). StepsTo c.args.self.now m (statement.Select c.args.query.now) r c.take_newest.new.self) (sym (refused_reply c.from_residual.result c.in_err-take_newest.field-0.0 c.from_residual.ensures.1))
-    (short_of c.args.self.now c.take_newest.new.self (statement.Select c.args.query.now) c.in_err-take_newest.field-0.0 refl c.in_err-take_newest.ensures.refused.0 c.in_err-take_newest.ensures.refused.1 m shown)
+    (short_of c.args.self.now c.take_newest.new.self (statement.Select c.args.query.now) c.in_err-take_newest.field-0.0 c.in_err-take_newest.ensures.refused.0 c.in_err-take_newest.ensures.refused.1 m shown)
 
 pub returns-clause-step : goal.returns-clause-step
 returns-clause-step g c =

@@ -11,24 +11,24 @@ use Rattle.session.proofs.Executing.{done_copies, no_checkpoint, no_query, query
 use Rattle.session.proofs.transactions.Connections.serve.Goals as goal
 
 pub returns-in-Select-clause-step : goal.returns-in-Select-clause-step
-returns-in-Select-clause-step g c supported_forms keeps =
+returns-in-Select-clause-step g c keeps =
     subst (λ (s : Statement). StepsOn c.args.self.now s (rows_reply c.select.result) c.select.new.self) (sym c.in-Select.is)
     c.select.ensures.step
 
 pub returns-in-Checkpoint-clause-step : goal.returns-in-Checkpoint-clause-step
-returns-in-Checkpoint-clause-step g c supported_forms keeps =
+returns-in-Checkpoint-clause-step g c keeps =
     subst (λ (s : Statement). StepsOn c.args.self.now s (rows_reply c.checkpoint.result) c.checkpoint.new.self) (sym c.in-Checkpoint.is)
     c.checkpoint.ensures.step
 
 pub returns-in_err-change-clause-step : goal.returns-in_err-change-clause-step
-returns-in_err-change-clause-step g c supported_forms keeps =
+returns-in_err-change-clause-step g c keeps =
     subst (λ (r : Reply). StepsOn c.args.self.now c.args.statement.now r c.change.new.self) (sym (refused_as c.from_residual.result c.in_err-change.field-0.0 c.from_residual.ensures.1))
-    (c.in_err-change.ensures.step supported_forms keeps (no_query c.args.statement.now c.in_default.not-Select c.in_default.not-Checkpoint))
+    (c.in_err-change.ensures.step keeps (no_query c.args.statement.now c.in_default.not-Select c.in_default.not-Checkpoint))
 
 pub returns-clause-step : goal.returns-clause-step
-returns-clause-step g c supported_forms keeps =
+returns-clause-step g c keeps =
     subst (λ (rows : List (SmallVec Value)). StepsOn c.args.self.now c.args.statement.now (Rows (map values_of rows)) c.change.new.self) (sym c.new.ensures.items)
-    (c.in_ok-change.ensures.step supported_forms keeps (no_query c.args.statement.now c.in_default.not-Select c.in_default.not-Checkpoint))
+    (c.in_ok-change.ensures.step keeps (no_query c.args.statement.now c.in_default.not-Select c.in_default.not-Checkpoint))
 
 pub returns-in-Select-clause-copied : goal.returns-in-Select-clause-copied
 returns-in-Select-clause-copied g c =

@@ -6,14 +6,14 @@ use Rattle.std.proofs.Common.{ap, sym, ◌∙◌}
 use Rattle.session.proofs.transactions.Connections.write.Goals as goal
 
 pub returns-in-Idle-clause-step : goal.returns-in-Idle-clause-step
-returns-in-Idle-clause-step g c supported_forms keeps =
-    with_own c.args.self.now _ c.replace.new.dest (written c.args.write) (done_reply c.autocommit.result) (sym c.replace.ensures.value ∙ c.in-Idle.is ∙ sym c.replace.ensures.after) (c.autocommit.ensures.step supported_forms keeps (ap is_idle c.replace.ensures.after))
+returns-in-Idle-clause-step g c keeps =
+    with_own c.args.self.now _ c.replace.new.dest (written c.args.write) (done_reply c.autocommit.result) (sym c.replace.ensures.value ∙ c.in-Idle.is ∙ sym c.replace.ensures.after) (c.autocommit.ensures.step keeps (ap is_idle c.replace.ensures.after))
 
 pub returns-in-Writing-clause-step : goal.returns-in-Writing-clause-step
-returns-in-Writing-clause-step g c supported_forms keeps =
-    with_own c.args.self.now _ (transaction.Writing c.in-Writing.writer) (written c.args.write) (done_reply c.continue_writing.result) (sym c.replace.ensures.value ∙ c.in-Writing.is) (c.continue_writing.ensures.step supported_forms keeps)
+returns-in-Writing-clause-step g c keeps =
+    with_own c.args.self.now _ (transaction.Writing c.in-Writing.writer) (written c.args.write) (done_reply c.continue_writing.result) (sym c.replace.ensures.value ∙ c.in-Writing.is) (c.continue_writing.ensures.step keeps)
 
 pub returns-in_default-clause-step : goal.returns-in_default-clause-step
-returns-in_default-clause-step g c supported_forms keeps =
+returns-in_default-clause-step g c keeps =
     with_own c.args.self.now _ c.replace.result (written c.args.write) (done_reply c.write_reading.result) (sym c.replace.ensures.value)
-    (c.write_reading.ensures.step supported_forms keeps (reading_else c.replace.result c.in_default.not-Idle c.in_default.not-Writing))
+    (c.write_reading.ensures.step keeps (reading_else c.replace.result c.in_default.not-Idle c.in_default.not-Writing))
