@@ -21,7 +21,7 @@ use Rattle.catalog.specs.declared.tables.RowShape.{RowShape}
 use Rattle.catalog.specs.declared.tables.Table.{Table}
 use Rattle.catalog.specs.declared.tables.TableRow as stored
 use Rattle.row_scan.specs.Rows.{IsRow, TableRow}
-use Rattle.row_change.specs.Demands.{admitted}
+use Rattle.row_change.specs.Demands.{admitted, with_own_rowid}
 use Rattle.row_change.specs.Inserting.{last_rowid, row_added, rows_inserted}
 use Rattle.row_change.specs.NewRows.{row_of}
 use Rattle.row_change.specs.Trees.{IsPutIn, PutsRow, row_put}
@@ -29,10 +29,10 @@ use Rattle.row_change.proofs.Rising.{fit_rows_rise}
 use Rattle.index_entries.specs.Entries.{AreApart}
 use Rattle.index_entries.specs.Keeping.{row_in}
 use Rattle.db_write.specs.Changing.{AreInserted, HoldsFitRows, InsertsInTrees, IsRefusedInsert}
-use Rattle.db_write.specs.OneRow.{InsertsFrom, InsertsOne, IsOneInserted, IsRefusedAs, last_with, row_inserted}
+use Rattle.db_write.specs.OneRow.{InsertsAfter, InsertsFrom, InsertsOneRow, IsRefusedAs, IsRowInserted, last_with, row_inserted}
 use Rattle.db_write.specs.Turning.{AddsRowToIndexes, HaveAlone, IsRowRefused}
 use Rattle.db_write.proofs.Among.{keeps_all, keeps_then, rows_tree}
-use Rattle.db_write.proofs.Clashing.{clash_refused, in_turn, passes, where_alone}
+use Rattle.db_write.proofs.Clashing.{alone_same, clash_refused, in_turn, passes, where_alone}
 use Rattle.db_write.proofs.Looping.{first_of, none_left}
 use Rattle.db_write.proofs.Owned.{RowsStand, fit_apart, indexes_stand, rows_among, same_now, table_holds}
 use Rattle.db_write.proofs.PutRows.{last_of_put, own_free, put_shuffles}
@@ -57,8 +57,8 @@ not_given r = Err r
 
 module _ (old mid : PageMap) (size : ℕ) (table : Table) (places : List (Option ℕ)) (given : List Value) (last : Option ℤ) where
   -- it isn't put
-  pub none_put : (fault : Fault) (result : Result (Option ℤ) Fault) → IsErrAnd result (λ e. e ≡ fault) → PutsRow old mid size table.root table places given last (Err fault) → InsertsOne old mid size table places given last result
-  none_put fault (Ok last) same puts = absurd same
+  pub none_put : (fault : Fault) (result : Result stored.TableRow Fault) → IsErrAnd result (λ e. e ≡ fault) → PutsRow old mid size table.root table places given last (Err fault) → InsertsAfter old mid size table places given last result
+  none_put fault (Ok row) same puts = absurd same
   none_put fault (Err e) same puts = λ schema before after rows sized is_root among fit at. (
       let s = rows_among old size schema before table rows after among sized is_root in
       subst (λ (f : Fault). IsRefusedAs (row_inserted table places rows given) table f) (sym same) (by rows at (puts rows s.entries s.used s.free s.stands s.each at)))
@@ -100,11 +100,9 @@ module _ (old mid : PageMap) (size : ℕ) (table : Table) (places : List (Option
       answered : (a : Answer TableRow) → where_alone table rows (row_of row) ≡ a → row_inserted table places rows given ≡ a
       answered a is = in_turn table rows (row_added table places (last_rowid rows) given) ∙ (ap (λ (b : Answer TableRow). b then where_alone table rows) come.answer ∙ is)
 
-      inserted : HaveAlone mid new size schema front table.indexes (row_of row) rows (rows ++ row_of row ∷ []) after → IsOneInserted old new size schema before table places given rows after (last_with last row.rowid)
+      inserted : HaveAlone mid new size schema front table.indexes (row_of row) rows (rows ++ row_of row ∷ []) after → IsRowInserted old new size schema before table places given rows after (row_of row)
       inserted have = record {
-        row = row_of row;
         answer = answered (Ok (row_of row)) (passes table (row_of row) rows have.alone);
-        is = ap (λ (l : Option ℤ). last_with l row.rowid) at ∙ last_of_put (row_of row) rows (fit_rows_rise (with_rows table rows) fit) free;
         hold = record {
           holds = table_holds old mid size schema before table rows after s come.entries come.becomes new rows_now come.each
               (same_now mid new size schema front table.indexes (rows ++ row_of row ∷ []) rows_now after (λ columns. sym (shuffled_entries columns came come_apart)) have.now);
@@ -118,14 +116,14 @@ module _ (old mid : PageMap) (size : ℕ) (table : Table) (places : List (Option
           inr (inl (answered (Err (refusal_of fault)) (clash_refused table (row_of row) rows clash.1 ∙ ap (λ (f : Fault). not_given (refusal_of f)) (sym clash.0))))
       refused fault (inr (inr long)) = inr (inr (long.0, wide_among table rows_now fits (λ all. long.1 (some_storable table.indexes came all))))
 
-    pub row_stopped : (fault : Fault) (result : Result (Option ℤ) Fault) → IsErrAnd result (λ e. e ≡ fault) → AddsRowToIndexes mid new size table.indexes (row_in row) (Err fault) → InsertsOne old new size table places given last result
-    row_stopped fault (Ok last) same adds = absurd same
+    pub row_stopped : (fault : Fault) (result : Result stored.TableRow Fault) → IsErrAnd result (λ e. e ≡ fault) → AddsRowToIndexes mid new size table.indexes (row_in row) (Err fault) → InsertsAfter old new size table places given last result
+    row_stopped fault (Ok other) same adds = absurd same
     row_stopped fault (Err e) same adds = λ schema before after rows sized is_root among fit at. (
         let s = rows_among old size schema before table rows after among sized is_root in
         subst (λ (f : Fault). IsRefusedAs (row_inserted table places rows given) table f) (sym same)
         (refused schema before after rows sized is_root s fit at fault (added schema before after rows sized is_root s fit at (Err fault) adds)))
 
-    pub row_come : AddsRowToIndexes mid new size table.indexes (row_in row) (Ok tt) → InsertsOne old new size table places given last (Ok (last_with last row.rowid))
+    pub row_come : AddsRowToIndexes mid new size table.indexes (row_in row) (Ok tt) → InsertsAfter old new size table places given last (Ok row)
     row_come adds schema before after rows sized is_root among fit at =
         let s = rows_among old size schema before table rows after among sized is_root in
         inserted schema before after rows sized is_root s fit at (added schema before after rows sized is_root s fit at (Ok tt) adds)
@@ -159,26 +157,37 @@ since_before old mid new size schema before table first rows after one more = re
   fit = more.fit;
 }
 
+-- a row that is inserted has a rowid that none of the rows had
+inserted_free : (table : Table) (places : List (Option ℕ)) (rows : List TableRow) (given : List Value) (row : TableRow) → row_inserted table places rows given ≡ Ok row → find int_cmp row.0 rows ≡ None
+inserted_free table places rows given row answer =
+    own_free (row_added table places (last_rowid rows) given) rows row
+    (alone_same table rows (row_added table places (last_rowid rows) given then λ r. with_own_rowid rows r) row (sym (in_turn table rows (row_added table places (last_rowid rows) given)) ∙ answer))
+
 module _ (old mid : PageMap) (size : ℕ) (table : Table) (places : List (Option ℕ)) (given : List Value) (more : List (List Value)) (last : Option ℤ) where
-  pub inserts_more : (new : PageMap) (now : Option ℤ) (result : Result ⊤ Fault) → InsertsOne old mid size table places given last (Ok now) → InsertsFrom mid new size table places more now result
+  pub inserts_more : (new : PageMap) (row : stored.TableRow) (result : Result ⊤ Fault) → InsertsAfter old mid size table places given last (Ok row) → InsertsFrom mid new size table places more (last_with last row.rowid) result
       → InsertsFrom old new size table places (given ∷ more) last result
-  inserts_more new now result first next schema before after rows sized is_root among fit at =
-      by result (next schema before after (put int_cmp one.row.0 one.row.1 rows) sized is_root one.hold.holds.among one.hold.fit one.is)
+  inserts_more new row result first next schema before after rows sized is_root among fit at =
+      by result (next schema before after (put int_cmp row.rowid row.values.items rows) sized is_root one.hold.holds.among one.hold.fit is)
     where
-      one : IsOneInserted old mid size schema before table places given rows after now
+      one : IsRowInserted old mid size schema before table places given rows after (row_of row)
       one = first schema before after rows sized is_root among fit at
 
-      same : rows_inserted table places rows (given ∷ more) ≡ rows_inserted table places (put int_cmp one.row.0 one.row.1 rows) more
+      is : last_with last row.rowid ≡ last_rowid (put int_cmp row.rowid row.values.items rows)
+      is =
+          ap (λ (l : Option ℤ). last_with l row.rowid) at
+          ∙ last_of_put (row_of row) rows (fit_rows_rise (with_rows table rows) fit) (inserted_free table places rows given (row_of row) one.answer)
+
+      same : rows_inserted table places rows (given ∷ more) ≡ rows_inserted table places (put int_cmp row.rowid row.values.items rows) more
       same = one_and_more table places rows given more ∙ ap (λ (a : Answer TableRow). a then Rest table places rows more) one.answer
 
-      by : (r : Result ⊤ Fault) → MatchResult r (λ done. AreInserted mid new size schema before table places more (put int_cmp one.row.0 one.row.1 rows) after) (IsRefusedInsert table places more (put int_cmp one.row.0 one.row.1 rows))
+      by : (r : Result ⊤ Fault) → MatchResult r (λ done. AreInserted mid new size schema before table places more (put int_cmp row.rowid row.values.items rows) after) (IsRefusedInsert table places more (put int_cmp row.rowid row.values.items rows))
           → MatchResult r (λ done. AreInserted old new size schema before table places (given ∷ more) rows after) (IsRefusedInsert table places (given ∷ more) rows)
-      by (Ok done) are = record { now = are.now; answer = same ∙ are.answer; hold = since_before old mid new size schema before table (put int_cmp one.row.0 one.row.1 rows) are.now after one.hold are.hold }
+      by (Ok done) are = record { now = are.now; answer = same ∙ are.answer; hold = since_before old mid new size schema before table (put int_cmp row.rowid row.values.items rows) are.now after one.hold are.hold }
       by (Err fault) (inl outside) = inl outside
       by (Err fault) (inr (inl is)) = inr (inl (same ∙ is))
       by (Err fault) (inr (inr wide)) = inr (inr wide)
 
-  pub inserts_stop : (fault : Fault) (result : Result ⊤ Fault) → IsErrAnd result (λ e. e ≡ fault) → InsertsOne old mid size table places given last (Err fault) → InsertsFrom old mid size table places (given ∷ more) last result
+  pub inserts_stop : (fault : Fault) (result : Result ⊤ Fault) → IsErrAnd result (λ e. e ≡ fault) → InsertsAfter old mid size table places given last (Err fault) → InsertsFrom old mid size table places (given ∷ more) last result
   inserts_stop fault (Ok done) same first = absurd same
   inserts_stop fault (Err e) same first = λ schema before after rows sized is_root among fit at.
       subst (λ (f : Fault). IsRefusedInsert table places (given ∷ more) rows f) (sym same) (by rows (first schema before after rows sized is_root among fit at))
@@ -207,5 +216,20 @@ module _ (old : PageMap) (size : ℕ) (table : Table) (places : List (Option ℕ
 
   pub inserted_from : (new : PageMap) (last : Option ℤ) (result : Result ⊤ Fault) → FindsLast old size table.root (Ok last) → InsertsFrom old new size table places given last result → InsertsInTrees old new size table places given result
   inserted_from new last result finds inserts schema before after rows sized is_root among fit =
+      let s = rows_among old size schema before table rows after among sized is_root in
+      inserts schema before after rows sized is_root among fit (finds s.entries s.used s.stands.free_are.whole s.stands.tree ∙ last_same (shape_of table) s.entries rows s.each)
+
+-- ---- one row alone
+
+module _ (old : PageMap) (size : ℕ) (table : Table) (places : List (Option ℕ)) (given : List Value) where
+  -- the last rowid isn't found
+  pub last_unread : (new : PageMap) (fault : Fault) (result : Result stored.TableRow Fault) → IsErrAnd result (λ e. e ≡ fault) → FindsLast old size table.root (Err fault) → InsertsOneRow old new size table places given result
+  last_unread new fault (Ok row) same finds = absurd same
+  last_unread new fault (Err e) same finds = λ schema before after rows sized is_root among fit. (
+      let s = rows_among old size schema before table rows after among sized is_root in
+      inl (inl (subst IsOutside (sym same) (finds s.entries s.used s.stands.free_are.whole s.stands.tree))))
+
+  pub inserted_last : (new : PageMap) (last : Option ℤ) (result : Result stored.TableRow Fault) → FindsLast old size table.root (Ok last) → InsertsAfter old new size table places given last result → InsertsOneRow old new size table places given result
+  inserted_last new last result finds inserts schema before after rows sized is_root among fit =
       let s = rows_among old size schema before table rows after among sized is_root in
       inserts schema before after rows sized is_root among fit (finds s.entries s.used s.stands.free_are.whole s.stands.tree ∙ last_same (shape_of table) s.entries rows s.each)

@@ -10,10 +10,11 @@ pub mod Looping
 pub mod Needed
 mod OneRows
 mod Owned
-mod PutRows
+pub mod PutRows
 mod SetShuffles
 mod Shuffling
 mod Sides
+mod TakenRow
 mod TurnedRows
 mod Updated
 mod Widths

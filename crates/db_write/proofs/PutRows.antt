@@ -97,7 +97,7 @@ with_first first rowid (Some last) lt = by (int_lt rowid last)
     by true = refl
     by false = refl
 
-rest_rises : (row : TableRow) (rows : List TableRow) → Climbs row.0 rows → Rises rows
+pub rest_rises : (row : TableRow) (rows : List TableRow) → Climbs row.0 rows → Rises rows
 rest_rises row [] climb = tt
 rest_rises row (next ∷ rows) climb = climb.1
 
@@ -116,7 +116,7 @@ last_of_put row (r ∷ rows) rises free = by (int_cmp row.0 r.0) refl (last_of_p
 
 -- ---- the others
 
-lower : (low mid : ℤ) (rows : List TableRow) → low <ℤ mid → Climbs mid rows → Climbs low rows
+pub lower : (low mid : ℤ) (rows : List TableRow) → low <ℤ mid → Climbs mid rows → Climbs low rows
 lower low mid [] lt climb = tt
 lower low mid (row ∷ rows) lt climb = (further low mid row.0 lt climb.0, climb.1)
 
@@ -126,7 +126,7 @@ all_beside low (r ∷ rows) climb =
     ap (λ (o : Ordering). cond (not (is_eq o)) (r ∷ rows_beside low rows) (rows_beside low rows)) (sym (int_cmp_is low r.0 Less climb.0))
     ∙ ap (λ (rest : List TableRow). r ∷ rest) (all_beside low rows (lower low r.0 rows climb.0 climb.1))
 
-climbs_to : (low : ℤ) (front : List TableRow) (row : TableRow) (back : List TableRow) → Climbs low (front ++ row ∷ back) → low <ℤ row.0
+pub climbs_to : (low : ℤ) (front : List TableRow) (row : TableRow) (back : List TableRow) → Climbs low (front ++ row ∷ back) → low <ℤ row.0
 climbs_to low [] row back climb = climb.0
 climbs_to low (r ∷ front) row back climb = further low r.0 row.0 climb.0 (climbs_to r.0 front row back climb.1)
 

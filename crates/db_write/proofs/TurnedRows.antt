@@ -56,13 +56,13 @@ same_row source row gone is copied = copied ∙ ap as_row is
 
 module _ (old : PageMap) (size : ℕ) (table : Table) (sets : List (ℕ × Term)) (source : Row) where
   -- it isn't copied, for want of memory
-  pub not_copied : (new : PageMap) (fault : Fault) (result : Result ⊤ Fault) → IsErrAnd result (λ e. e ≡ fault) → IsOutsideOrFull fault → TurnsRow old new size table sets source result
-  not_copied new fault (Ok done) same outside = absurd same
+  pub not_copied : (new : PageMap) (fault : Fault) (result : Result stored.TableRow Fault) → IsErrAnd result (λ e. e ≡ fault) → IsOutsideOrFull fault → TurnsRow old new size table sets source result
+  not_copied new fault (Ok now) same outside = absurd same
   not_copied new fault (Err e) same outside = λ schema before after front row back sized is_root among fit is. inl (subst IsOutsideOrFull (sym same) outside)
 
   -- it isn't set
-  pub row_unset : (mid : PageMap) (fault : Fault) (result : Result ⊤ Fault) → IsErrAnd result (λ e. e ≡ fault) → SetsRow old mid size table.root table sets source (Err fault) → TurnsRow old mid size table sets source result
-  row_unset mid fault (Ok done) same sets_so = absurd same
+  pub row_unset : (mid : PageMap) (fault : Fault) (result : Result stored.TableRow Fault) → IsErrAnd result (λ e. e ≡ fault) → SetsRow old mid size table.root table sets source (Err fault) → TurnsRow old mid size table sets source result
+  row_unset mid fault (Ok now) same sets_so = absurd same
   row_unset mid fault (Err e) same sets_so = λ schema before after front row back sized is_root among fit is. (
       let s = rows_among old size schema before table (front ++ row ∷ back) after among sized is_root in
       subst (λ (f : Fault). IsRefusedAs (row_turned table sets row (front ++ back)) table f) (sym same) (by front row back (sets_so front row back s.entries s.used s.free s.stands s.each is)))
@@ -117,11 +117,8 @@ module _ (old : PageMap) (size : ℕ) (table : Table) (sets : List (ℕ × Term)
       answered : (a : Answer TableRow) → where_alone table others (row_of come) ≡ a → row_turned table sets row others ≡ a
       answered a so = in_turn table others (row_set table sets row) ∙ (ap (λ (b : Answer TableRow). b then where_alone table others) set.answer ∙ so)
 
-      turned : (result : Result ⊤ Fault)
-          → MatchResult result (λ done. HaveAlone mid new size schema first table.indexes (row_of come) others (others ++ row_of come ∷ []) after) (IsRowRefused table.indexes (row_of come) others)
-          → MatchResult result (λ done. IsTurned old new size schema before table sets front row back after) (λ fault. IsRefusedAs (row_turned table sets row others) table fault)
-      turned (Ok done) have = record {
-        now = row_of come;
+      turned : HaveAlone mid new size schema first table.indexes (row_of come) others (others ++ row_of come ∷ []) after → IsTurned old new size schema before table sets front row back after (row_of come)
+      turned have = record {
         answer = answered (Ok (row_of come)) (passes table (row_of come) others have.alone);
         hold = record {
           holds = table_holds old mid size schema before table (front ++ row ∷ back) after s set.entries set.becomes new rows_now set.each
@@ -129,15 +126,24 @@ module _ (old : PageMap) (size : ℕ) (table : Table) (sets : List (ℕ × Term)
           fit = fits;
         };
       }
-      turned (Err fault) (inl outside) = inl outside
-      turned (Err fault) (inr (inl clash)) =
-          inr (inl (answered (Err (refusal_of fault)) (clash_refused table (row_of come) others clash.1 ∙ ap (λ (f : Fault). not_given (refusal_of f)) (sym clash.0))))
-      turned (Err fault) (inr (inr long)) = inr (inr (long.0, wide_among table rows_now fits (λ all. long.1 (some_storable table.indexes came all))))
 
-    pub row_turns : (result : Result ⊤ Fault) → MovesRowInIndexes mid new size table.indexes (row_in gone) (row_in come) result → TurnsRow old new size table sets source result
-    row_turns result moves schema before after front row back sized is_root among fit is =
+      unturned : (fault : Fault) → IsRowRefused table.indexes (row_of come) others fault → IsRefusedAs (row_turned table sets row others) table fault
+      unturned fault (inl outside) = inl outside
+      unturned fault (inr (inl clash)) =
+          inr (inl (answered (Err (refusal_of fault)) (clash_refused table (row_of come) others clash.1 ∙ ap (λ (f : Fault). not_given (refusal_of f)) (sym clash.0))))
+      unturned fault (inr (inr long)) = inr (inr (long.0, wide_among table rows_now fits (λ all. long.1 (some_storable table.indexes came all))))
+
+    pub row_turns : MovesRowInIndexes mid new size table.indexes (row_in gone) (row_in come) (Ok tt) → TurnsRow old new size table sets source (Ok come)
+    row_turns moves schema before after front row back sized is_root among fit is =
         let s = rows_among old size schema before table (front ++ row ∷ back) after among sized is_root in
-        turned schema before after front row back sized is_root s fit is result (moved schema before after front row back sized is_root s fit is result moves)
+        turned schema before after front row back sized is_root s fit is (moved schema before after front row back sized is_root s fit is (Ok tt) moves)
+
+    pub row_unturned : (fault : Fault) (result : Result stored.TableRow Fault) → IsErrAnd result (λ e. e ≡ fault) → MovesRowInIndexes mid new size table.indexes (row_in gone) (row_in come) (Err fault) → TurnsRow old new size table sets source result
+    row_unturned fault (Ok now) same moves = absurd same
+    row_unturned fault (Err e) same moves = λ schema before after front row back sized is_root among fit is. (
+        let s = rows_among old size schema before table (front ++ row ∷ back) after among sized is_root in
+        subst (λ (f : Fault). IsRefusedAs (row_turned table sets row (front ++ back)) table f) (sym same)
+        (unturned schema before after front row back sized is_root s fit is fault (moved schema before after front row back sized is_root s fit is (Err fault) moves)))
 
 -- ---- a row among others
 
@@ -209,24 +215,24 @@ tail_is : (a b : Row) (xs ys : List Row) → a ∷ xs ≡ b ∷ ys → xs ≡ ys
 tail_is a b xs ys e = cc
 
 module _ (old mid : PageMap) (size : ℕ) (table : Table) (sets : List (ℕ × Term)) (source : Row) (more : List Row) where
-  pub turns_more : (new : PageMap) (result : Result ⊤ Fault) → TurnsRow old mid size table sets source (Ok tt) → TurnsFrom mid new size table sets more result → TurnsFrom old new size table sets (source ∷ more) result
-  turns_more new result first next schema before after rows [] sized is_root among fit are one apart = absurd cc
-  turns_more new result first next schema before after rows (row ∷ olds) sized is_root among fit are one apart = by (split_at row rows one.0)
+  pub turns_more : (new : PageMap) (came : stored.TableRow) (result : Result ⊤ Fault) → TurnsRow old mid size table sets source (Ok came) → TurnsFrom mid new size table sets more result → TurnsFrom old new size table sets (source ∷ more) result
+  turns_more new came result first next schema before after rows [] sized is_root among fit are one apart = absurd cc
+  turns_more new came result first next schema before after rows (row ∷ olds) sized is_root among fit are one apart = by (split_at row rows one.0)
     where
       here : (front back : List TableRow) → AreAmong old size schema before table (front ++ row ∷ back) after → are_rows (with_rows table (front ++ row ∷ back)) ≡ true
           → AllByRecursion (λ r. IsOneOf r (front ++ row ∷ back)) olds → Turns old new size schema before table sets (front ++ row ∷ back) (row ∷ olds) after result
       here front back among fit one =
           let now = first schema before after front row back sized is_root among fit (head_is source (as_source row) more (map as_source olds) are) in
           let same = one_and_more table sets front row back olds fit ∙ ap (λ (a : Answer TableRow). a then Turned table sets (front ++ back) olds) now.answer in
-          on now same result (next schema before after (put int_cmp now.now.0 now.now.1 (front ++ back)) olds sized is_root now.hold.holds.among now.hold.fit (tail_is source (as_source row) more (map as_source olds) are)
-          (stay_all olds front row back (now.now ∷ []) (put int_cmp now.now.0 now.now.1 (front ++ back)) (put_shuffles now.now (front ++ back) (turned_free table sets row (front ++ back) now.now now.answer)) apart.0 one)
+          on now same result (next schema before after (put int_cmp came.rowid came.values.items (front ++ back)) olds sized is_root now.hold.holds.among now.hold.fit (tail_is source (as_source row) more (map as_source olds) are)
+          (stay_all olds front row back (row_of came ∷ []) (put int_cmp came.rowid came.values.items (front ++ back)) (put_shuffles (row_of came) (front ++ back) (turned_free table sets row (front ++ back) (row_of came) now.answer)) apart.0 one)
           apart.1)
         where
-          on : (now : IsTurned old mid size schema before table sets front row back after)
-              → rows_turned table sets (front ++ row ∷ back) (row ∷ olds) ≡ rows_turned table sets (put int_cmp now.now.0 now.now.1 (front ++ back)) olds
-              → (r : Result ⊤ Fault) → MatchResult r (λ done. AreTurned mid new size schema before table sets (put int_cmp now.now.0 now.now.1 (front ++ back)) olds after) (λ fault. IsRefusedAs (rows_turned table sets (put int_cmp now.now.0 now.now.1 (front ++ back)) olds) table fault)
+          on : (now : IsTurned old mid size schema before table sets front row back after (row_of came))
+              → rows_turned table sets (front ++ row ∷ back) (row ∷ olds) ≡ rows_turned table sets (put int_cmp came.rowid came.values.items (front ++ back)) olds
+              → (r : Result ⊤ Fault) → MatchResult r (λ done. AreTurned mid new size schema before table sets (put int_cmp came.rowid came.values.items (front ++ back)) olds after) (λ fault. IsRefusedAs (rows_turned table sets (put int_cmp came.rowid came.values.items (front ++ back)) olds) table fault)
               → MatchResult r (λ done. AreTurned old new size schema before table sets (front ++ row ∷ back) (row ∷ olds) after) (λ fault. IsRefusedAs (rows_turned table sets (front ++ row ∷ back) (row ∷ olds)) table fault)
-          on now same (Ok done) they = record { now = they.now; answer = same ∙ they.answer; hold = since_before old mid new size schema before table (put int_cmp now.now.0 now.now.1 (front ++ back)) they.now after now.hold they.hold }
+          on now same (Ok done) they = record { now = they.now; answer = same ∙ they.answer; hold = since_before old mid new size schema before table (put int_cmp came.rowid came.values.items (front ++ back)) they.now after now.hold they.hold }
           on now same (Err fault) (inl outside) = inl outside
           on now same (Err fault) (inr (inl is)) = inr (inl (same ∙ is))
           on now same (Err fault) (inr (inr wide)) = inr (inr wide)

@@ -2,17 +2,20 @@
 
 ghost use Rattle.std.specs.Prelude.{◌≡◌, IsTrue, None, Some, length};
 ghost use Rattle.pages.specs.Calls.{Causes};
+ghost use Rattle.index_entries.specs.Keeping.{row_in};
 ghost use Rattle.db_write.specs.Changing.{DeletesInTrees};
+ghost use Rattle.db_write.specs.OneRow.{TakesOneRow};
 
 use crate::entries::{clear_indexes, take_from_indexes};
 use crate::reading::{enough_rows, source_of};
-use catalog::Table;
+use catalog::{Table, TableRow};
 use pages::WritePages;
 use query_terms::Term;
 use row_change::{meant_rows, take_rows};
 use sqlval::R;
 use std::alloc::Global;
-use tree_table::clear;
+use std::array::from_ref;
+use tree_table::{clear, remove};
 
 /// Takes all rows out of a table's tree, and all entries out of the trees of its indexes. (What the two `clear` refuse.)
 fn clear_rows<P: WritePages>(alloc: Global, pages: &mut P, table: &Table) -> R<()>
@@ -98,4 +101,24 @@ pub fn delete_rows<P: WritePages>(
         }
         Some(term) => take_indexed_rows(alloc, pages, table, condition, term),
     }
+}
+
+/// Takes a row out of a table's tree, and its entries out of the trees of the table's indexes. (`Memory`, `Io`, `Full`. Then some pages may have
+/// changed.)
+pub fn take_row<P: WritePages>(alloc: Global, pages: &mut P, table: &Table, row: &TableRow) -> R<()>
+    ensures taken { IsTrue (P.Pages.tells (P.Pages.below pages.old))
+        → TakesOneRow (P.Pages.map pages.old) (P.Pages.map pages.new)
+        (P.Pages.limits (P.Pages.below pages.old)).page
+        table.now (row_in row.now) result }
+    ensures kept { P.Pages.below pages.new ≡ P.Pages.below pages.old }
+    ensures causes { Causes result (P.Pages.failures pages.old) (P.Pages.failures pages.new)
+        (P.Pages.count pages.new ≡ (P.Pages.limits (P.Pages.below pages.new)).most) }
+{
+    remove(alloc, pages, table.root, row.rowid)?;
+    take_from_indexes(
+        alloc,
+        pages,
+        table.indexes.as_slice(),
+        from_ref(row).as_slice(),
+    )
 }

@@ -4,7 +4,7 @@ ghost use Rattle.std.specs.Prelude.{◌≡◌, IsTrue, map};
 ghost use Rattle.pages.specs.Calls.{Causes};
 ghost use Rattle.index_entries.specs.Keeping.{row_in};
 ghost use Rattle.db_write.specs.Changing.{InsertsInTrees};
-ghost use Rattle.db_write.specs.OneRow.{InsertsFrom, InsertsOne, last_with};
+ghost use Rattle.db_write.specs.OneRow.{InsertsAfter, InsertsFrom, InsertsOneRow, last_with};
 
 use crate::row_entries::add_row_to_indexes;
 use catalog::{Table, TableRow};
@@ -26,17 +26,17 @@ fn last_after(last: Option<i64>, row: &TableRow) -> Option<i64>
 }
 
 /// Puts the row that a row given becomes into the tree of its table, whose last rowid this is, and its entries into the trees of the table's
-/// indexes, and answers the last rowid then. (What `put_new_row` and `add_row_to_indexes` refuse.)
-fn insert_row<P: WritePages>(
+/// indexes, and answers it. (What `put_new_row` and `add_row_to_indexes` refuse.)
+fn insert_after<P: WritePages>(
     alloc: Global,
     pages: &mut P,
     table: &Table,
     places: &[Option<usize>],
     given: &[Value],
     last: Option<i64>,
-) -> R<Option<i64>>
+) -> R<TableRow>
     ensures inserted { IsTrue (P.Pages.tells (P.Pages.below pages.old))
-        → InsertsOne (P.Pages.map pages.old) (P.Pages.map pages.new)
+        → InsertsAfter (P.Pages.map pages.old) (P.Pages.map pages.new)
         (P.Pages.limits (P.Pages.below pages.old)).page
         table.now places.now given.now last result }
     ensures kept { P.Pages.below pages.new ≡ P.Pages.below pages.old }
@@ -45,10 +45,33 @@ fn insert_row<P: WritePages>(
 {
     let row = put_new_row(alloc, pages, table, places, given, last)?;
     add_row_to_indexes(alloc, pages, table.indexes.as_slice(), &row)?;
-    Ok(last_after(last, &row))
+    Ok(row)
 }
 
-/// Puts the rows that rows given become into the trees of their table, whose last rowid this is, one after another. (What `insert_row` refuses.)
+/// Puts the row that a row given becomes into the tree of its table, and its entries into the trees of the table's indexes, and answers the row as
+/// it is stored. `places` has for each column the place of the value that is given for it. (What the columns and the table refuse of the row;
+/// `Unique` for a rowid that is there, or a key in a UNIQUE index; `TooLong` for an index of more than 999 columns; `Memory`, `Io`, `Full`. Then
+/// some pages may have changed.)
+pub fn insert_row<P: WritePages>(
+    alloc: Global,
+    pages: &mut P,
+    table: &Table,
+    places: &[Option<usize>],
+    given: &[Value],
+) -> R<TableRow>
+    ensures inserted { IsTrue (P.Pages.tells (P.Pages.below pages.old))
+        → InsertsOneRow (P.Pages.map pages.old) (P.Pages.map pages.new)
+        (P.Pages.limits (P.Pages.below pages.old)).page
+        table.now places.now given.now result }
+    ensures kept { P.Pages.below pages.new ≡ P.Pages.below pages.old }
+    ensures causes { Causes result (P.Pages.failures pages.old) (P.Pages.failures pages.new)
+        (P.Pages.count pages.new ≡ (P.Pages.limits (P.Pages.below pages.new)).most) }
+{
+    let last = last(pages, table.root)?;
+    insert_after(alloc, pages, table, places, given, last)
+}
+
+/// Puts the rows that rows given become into the trees of their table, whose last rowid this is, one after another. (What `insert_after` refuses.)
 fn insert_from<P: WritePages>(
     alloc: Global,
     pages: &mut P,
@@ -68,7 +91,8 @@ fn insert_from<P: WritePages>(
     let mut before = last;
     let mut left = rows;
     'rows: while let [given, rest @ ..] = left {
-        before = insert_row(alloc, pages, table, places, given, before)?;
+        let row = insert_after(alloc, pages, table, places, given, before)?;
+        before = last_after(before, &row);
         left = rest;
     }
     Ok(())

@@ -11,8 +11,9 @@ mod reading;
 mod row_entries;
 mod updating;
 
-pub use deleting::delete_rows;
+pub use deleting::{delete_rows, take_row};
 pub use dropping::{drop_trees, free_index};
-pub use inserting::insert_rows;
+pub use inserting::{insert_row, insert_rows};
 pub use making::add_index;
-pub use updating::update_rows;
+pub use reading::row_at;
+pub use updating::{turn_row, update_rows};

@@ -5,16 +5,18 @@ ghost use Rattle.pages.specs.Calls.{Causes, Stays};
 ghost use Rattle.query_terms.specs.Rows.{row_at};
 ghost use Rattle.row_change.specs.Agreement.{has_unique};
 ghost use Rattle.row_change.specs.Setting.{keeps_rowids};
+ghost use Rattle.index_entries.specs.Keeping.{row_in};
 ghost use Rattle.db_write.specs.Changing.{UpdatesInTrees};
 ghost use Rattle.db_write.specs.Kept.{FindsKept};
 ghost use Rattle.db_write.specs.OneRow.{TurnsFrom, TurnsRow};
 ghost use Rattle.db_write.specs.Reading.{LoadsEnough};
+ghost use Rattle.db_write.specs.Turning.{MovesRowInIndexes};
 
 use crate::alone::are_alone;
 use crate::entries::replace_in_indexes;
 use crate::reading::enough_rows;
 use crate::row_entries::{has_unique, move_row_in_indexes, replace_row_in_indexes};
-use catalog::Table;
+use catalog::{Index, Table, TableRow};
 use pages::WritePages;
 use query_terms::{SourceRow, Term};
 use row_change::{
@@ -79,16 +81,42 @@ fn set_indexed_rows<P: WritePages>(
     replace_in_indexes(alloc, pages, table.indexes.as_slice(), &gone, &new)
 }
 
-/// Sets values in a row of a table, which is that at a place, and puts its new entry in place of its old one in the tree of each index. (What
-/// `row_copy`, `set_row`, `replace_row_in_indexes` and `move_row_in_indexes` refuse.)
-fn turn_row<P: WritePages>(
+/// Puts the entry of a row in place of that of another, of its rowid or not, in the tree of each of these indexes. (What `replace_row_in_indexes`
+/// and `move_row_in_indexes` refuse.)
+fn turn_in_indexes<P: WritePages>(
+    alloc: Global,
+    pages: &mut P,
+    indexes: &[Index],
+    gone: &TableRow,
+    come: &TableRow,
+) -> R<()>
+    ensures moved { IsTrue (P.Pages.tells (P.Pages.below pages.old))
+        → MovesRowInIndexes (P.Pages.map pages.old) (P.Pages.map pages.new)
+        (P.Pages.limits (P.Pages.below pages.old)).page
+        indexes.now (row_in gone.now) (row_in come.now) result }
+    ensures kept { P.Pages.below pages.new ≡ P.Pages.below pages.old }
+    ensures causes { Causes result (P.Pages.failures pages.old) (P.Pages.failures pages.new)
+        (P.Pages.count pages.new ≡ (P.Pages.limits (P.Pages.below pages.new)).most) }
+{
+    if come.rowid == gone.rowid {
+        replace_row_in_indexes(alloc, pages, indexes, gone, come)
+    } else {
+        move_row_in_indexes(alloc, pages, indexes, gone, come)
+    }
+}
+
+/// Sets values in a row of a table, which is that at a place of these rows, puts its new entry in place of its old one in the tree of each index,
+/// and answers what the row became. (What SET's expressions, the columns and the table refuse of the row; `RowidMismatch` where no integer is in the
+/// rowid's own column; `Unique` for a rowid or a key that another row has; `TooLong` for an index of more than 999 columns; `Memory`, `Io`, `Full`.
+/// Then some pages may have changed.)
+pub fn turn_row<P: WritePages>(
     alloc: Global,
     pages: &mut P,
     table: &Table,
     sets: &[(usize, Term)],
     rows: &Many<SourceRow>,
     place: usize,
-) -> R<()>
+) -> R<TableRow>
     ensures turned { IsTrue (P.Pages.tells (P.Pages.below pages.old))
         → TurnsRow (P.Pages.map pages.old) (P.Pages.map pages.new)
         (P.Pages.limits (P.Pages.below pages.old)).page
@@ -99,12 +127,8 @@ fn turn_row<P: WritePages>(
 {
     let gone = row_copy(alloc, rows, place)?;
     let come = set_row(alloc, pages, table, sets, rows, place)?;
-    let indexes = table.indexes.as_slice();
-    if come.rowid == gone.rowid {
-        replace_row_in_indexes(alloc, pages, indexes, &gone, &come)
-    } else {
-        move_row_in_indexes(alloc, pages, indexes, &gone, &come)
-    }
+    turn_in_indexes(alloc, pages, table.indexes.as_slice(), &gone, &come)?;
+    Ok(come)
 }
 
 /// Sets values in the rows of a table that are those at these places, one after another. (What `turn_row` refuses.)

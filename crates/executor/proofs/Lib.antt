@@ -37,3 +37,9 @@ pub mod SchemaTaking
 mod Wide
 mod RefusedViews
 mod ViewRows
+mod AllRows
+mod LiteralSets
+mod PlacesByColumn
+mod RowsInStores
+mod SingleRows
+mod StoredAgain

@@ -4,5 +4,6 @@ pub mod Holding
 pub mod Listing
 pub mod Reading
 pub mod Refusing
+pub mod Rows
 pub mod Works
 pub mod Writes

@@ -10,6 +10,7 @@ mod inserting;
 mod kept;
 mod reading;
 mod refusing;
+mod rows;
 mod triggers;
 mod updating;
 mod views;
@@ -20,6 +21,9 @@ pub use deleting::delete_rows;
 pub use dropping::drop_object;
 pub use inserting::insert;
 pub use reading::read;
+pub use rows::{
+    all_rows, insert_row, places_by_column, row_at, set_row, stored_values_stay, take_row,
+};
 pub use triggers::create_trigger;
 pub use updating::update_rows;
 pub use views::create_view;

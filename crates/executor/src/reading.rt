@@ -32,7 +32,7 @@ use std::alloc::Global;
 use tree_table::{Batch, Cursor};
 
 /// How many views may stand one within another.
-const MAX_VIEWS: usize = 64;
+pub(crate) const MAX_VIEWS: usize = 64;
 
 /// The table that a query's source of a number is, if there is one of its name.
 fn table_of<'a>(catalog: &'a Catalog, reading: &Reading, source: usize) -> Option<&'a Table>
@@ -168,7 +168,7 @@ fn made_rows(alloc: Global, rows: Rows) -> R<Many<SourceRow>>
 /// All rows of a view, in the order of its answer, where up to `room` views stand one within another. (What `bind_reading` and `rows_within`
 /// refuse.)
 #[cycle(rows_within)]
-fn view_rows<P: Pages>(
+pub(crate) fn view_rows<P: Pages>(
     alloc: Global,
     pages: &mut P,
     catalog: &Catalog,

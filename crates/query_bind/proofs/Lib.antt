@@ -3,6 +3,7 @@ pub mod Grown
 pub mod IndexNames
 pub mod Joining
 pub mod Keyless
+pub mod Outer
 pub mod Placed
 pub mod Quiet
 pub mod Readings

@@ -40,6 +40,7 @@ use Rattle.catalog.specs.declared.tables.Column.{Column}
 use Rattle.query_bind.specs.Named.{order_given, orders_checked, resolve_clauses}
 use Rattle.query_names.proofs.QuietNames.{Quiet, is_loud, not_disk, of_both, of_known, of_map, of_one, of_then, of_tree, of_unless, quiet_or}
 use Rattle.query_bind.proofs.Readings.{astray, mixed, three}
+use Rattle.query_bind.proofs.Whole.{seen_of}
 
 -- ---- queries
 
@@ -108,20 +109,20 @@ of_reading : (n : ℕ) (q : Query) (is_open : Bool) (joined : List (Name × Cond
 of_reading n q is_open joined filter keys results orders h =
     quiet_three (mixed n keys results orders) (astray q is_open results orders) (nat_lt 64 (length results)) (faults (orders_checked orders)) h
 
-abbrev read : List ScopeSource → List (Name × Condition) → Query → Option Term → List Term → List (Term × ScopeColumn) → Checked Reading
-read scope joined q filter keys results = as_reading 0 q (list_any (is_open_item scope) q.results) joined filter keys results (map (order_given scope q.results results) q.order)
+abbrev read : ℕ → List ScopeSource → List (Name × Condition) → Query → Option Term → List Term → List (Term × ScopeColumn) → Checked Reading
+read outer scope joined q filter keys results = as_reading outer q (list_any (is_open_item scope) q.results) joined filter keys results (map (order_given scope q.results results) q.order)
 
-of_clauses : (scope : List ScopeSource) (joined : List (Name × Condition)) (q : Query) → Quiet (resolve_clauses scope joined q)
-of_clauses scope joined q =
+of_clauses : (outer : ℕ) (scope : List ScopeSource) (joined : List (Name × Condition)) (q : Query) → Quiet (resolve_clauses outer scope joined q)
+of_clauses outer scope joined q =
     of_then (resolve_filter scope q.condition)
-    (λ filter. known_all (map (resolve false scope) q.groups) and_then λ keys. resolve_items scope q.results and_then λ results. read scope joined q filter keys results) (of_filter scope q.condition)
-    (λ filter. of_then (known_all (map (resolve false scope) q.groups)) (λ keys. resolve_items scope q.results and_then λ results. read scope joined q filter keys results) (of_known (resolve false scope) q.groups (of_tree false scope))
-    (λ keys. of_then (resolve_items scope q.results) (λ results. read scope joined q filter keys results) (of_items scope q.results)
-    (λ results. of_reading 0 q (list_any (is_open_item scope) q.results) joined filter keys results (map (order_given scope q.results results) q.order) (of_orders scope q.results results q.order))))
+    (λ filter. known_all (map (resolve false scope) q.groups) and_then λ keys. resolve_items scope q.results and_then λ results. read outer scope joined q filter keys results) (of_filter scope q.condition)
+    (λ filter. of_then (known_all (map (resolve false scope) q.groups)) (λ keys. resolve_items scope q.results and_then λ results. read outer scope joined q filter keys results) (of_known (resolve false scope) q.groups (of_tree false scope))
+    (λ keys. of_then (resolve_items scope q.results) (λ results. read outer scope joined q filter keys results) (of_items scope q.results)
+    (λ results. of_reading outer q (list_any (is_open_item scope) q.results) joined filter keys results (map (order_given scope q.results results) q.order) (of_orders scope q.results results q.order))))
 
-of_query : (look : Lookup) → ((name : Name) → Quiet (look name)) → (q : Query) → Quiet (resolve_query look [] q)
-of_query look each q =
-    of_then (resolve_sources look [] (sources_of q)) (λ s. resolve_clauses s.0 s.1 q) (of_sources look each (sources_of q) []) (λ s. of_clauses s.0 s.1 q)
+of_query : (look : Lookup) → ((name : Name) → Quiet (look name)) → (outer : List ScopeSource) (q : Query) → Quiet (resolve_query look outer q)
+of_query look each outer q =
+    of_then (resolve_sources look (seen_of outer q) (sources_of q)) (λ s. resolve_clauses (length outer) s.0 s.1 q) (of_sources look each (sources_of q) (seen_of outer q)) (λ s. of_clauses (length outer) s.0 s.1 q)
 
 -- ---- tables and views
 
@@ -149,11 +150,11 @@ of_names zero l around name =
 of_names (suc n) l around name =
     of_listed (λ v. unless_around around name (view_columns (as_view v) (resolve_query (columns_in n l (folded name ∷ around)) [] v.definition.query)))
     (λ v. of_around (list_any (is_same_name name) around) (view_columns (as_view v) (resolve_query (columns_in n l (folded name ∷ around)) [] v.definition.query))
-    (of_view (as_view v) (resolve_query (columns_in n l (folded name ∷ around)) [] v.definition.query) (of_query (columns_in n l (folded name ∷ around)) (of_names n l (folded name ∷ around)) v.definition.query)))
+    (of_view (as_view v) (resolve_query (columns_in n l (folded name ∷ around)) [] v.definition.query) (of_query (columns_in n l (folded name ∷ around)) (of_names n l (folded name ∷ around)) [] v.definition.query)))
     (table_named name l.tables) (view_named name l.views)
 
-pub of_listed_query : (n : ℕ) (l : Listed) (around : List Name) (q : Query) → Quiet (resolve_query (columns_in n l around) [] q)
-of_listed_query n l around q = of_query (columns_in n l around) (of_names n l around) q
+pub of_listed_query : (n : ℕ) (l : Listed) (around : List Name) (outer : List ScopeSource) (q : Query) → Quiet (resolve_query (columns_in n l around) outer q)
+of_listed_query n l around outer q = of_query (columns_in n l around) (of_names n l around) outer q
 
 -- rows of expressions
 pub of_rows : (s : List ScopeSource) (rows : List (List Tree)) → Quiet (known_all (map (λ row. known_all (map (resolve false s) row)) rows))

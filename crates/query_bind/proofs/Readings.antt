@@ -38,8 +38,8 @@ grouped keys all = list_any has_total all || nat_lt 0 (length keys)
 abbrev mark : Bool → List Term → Term → Term
 mark g keys t = if g then keyed keys t else t
 
-abbrev has_bare : Term → Bool
-has_bare = has false (is_own_cell 0)
+abbrev has_bare : ℕ → Term → Bool
+has_bare outer = has false (is_own_cell outer)
 
 -- refusals for three causes, and others
 abbrev pub three : Bool → Bool → Bool → List Refusal → List Refusal
@@ -72,16 +72,16 @@ grouped_is p = ap (λ b. b || nat_lt 0 (length p.keys.items)) (any_terms has_tot
 
 -- ---- refusals
 
-abbrev marked_have : List Term → List (Term × ScopeColumn) → List (Term × Bool) → Bool
-marked_have keys results os = list_any has_bare (map (λ (r : Term × ScopeColumn). keyed keys r.0) results) || list_any (λ (o : Term × Bool). has_bare o.0) (map (λ (o : Term × Bool). (keyed keys o.0, o.1)) os)
+abbrev marked_have : ℕ → List Term → List (Term × ScopeColumn) → List (Term × Bool) → Bool
+marked_have outer keys results os = list_any (has_bare outer) (map (λ (r : Term × ScopeColumn). keyed keys r.0) results) || list_any (λ (o : Term × Bool). has_bare outer o.0) (map (λ (o : Term × Bool). (keyed keys o.0, o.1)) os)
 
-mixed_at : (g : Bool) (keys : List Term) (results : List (Term × ScopeColumn)) (os : List (Term × Bool))
-    → (g && list_any (λ t. has_bare (mark g keys t)) (all_terms results (given os))) ≡ (g && marked_have keys results os)
-mixed_at false keys results os = refl
-mixed_at true keys results os =
-    any_terms (λ t. has_bare (keyed keys t)) results os
-    ∙ (ap (λ b. b || list_any (λ (o : Term × Bool). has_bare (keyed keys o.0)) os) (sym (any_map has_bare (λ (r : Term × ScopeColumn). keyed keys r.0) results))
-    ∙ ap (λ b. list_any has_bare (map (λ (r : Term × ScopeColumn). keyed keys r.0) results) || b) (sym (any_map (λ (o : Term × Bool). has_bare o.0) (λ (o : Term × Bool). (keyed keys o.0, o.1)) os)))
+mixed_at : (outer : ℕ) (g : Bool) (keys : List Term) (results : List (Term × ScopeColumn)) (os : List (Term × Bool))
+    → (g && list_any (λ t. has_bare outer (mark g keys t)) (all_terms results (given os))) ≡ (g && marked_have outer keys results os)
+mixed_at outer false keys results os = refl
+mixed_at outer true keys results os =
+    any_terms (λ t. has_bare outer (keyed keys t)) results os
+    ∙ (ap (λ b. b || list_any (λ (o : Term × Bool). has_bare outer (keyed keys o.0)) os) (sym (any_map (has_bare outer) (λ (r : Term × ScopeColumn). keyed keys r.0) results))
+    ∙ ap (λ b. list_any (has_bare outer) (map (λ (r : Term × ScopeColumn). keyed keys r.0) results) || b) (sym (any_map (λ (o : Term × Bool). has_bare outer o.0) (λ (o : Term × Bool). (keyed keys o.0, o.1)) os)))
 
 -- the test of a column that is neither grouped nor in an aggregate
 abbrev pub mixed : ℕ → List Term → List (Term × ScopeColumn) → List (Checked Term × Bool) → Bool
@@ -92,16 +92,16 @@ mixed n keys results orders =
 abbrev pub astray : Query → Bool → List (Term × ScopeColumn) → List (Checked Term × Bool) → Bool
 astray q is_open results orders = q.is_distinct && not is_open && list_any (λ (o : Checked Term × Bool). is_other results o.0) orders
 
-abbrev is_mixed : Parts → Bool
-is_mixed p = mixed 0 p.keys.items p.results.items (given p.orders.items)
+abbrev is_mixed : ℕ → Parts → Bool
+is_mixed outer p = mixed outer p.keys.items p.results.items (given p.orders.items)
 
 abbrev is_astray : Query → Parts → Bool
 is_astray q p = astray q false p.results.items (given p.orders.items)
 
-mixed_is : (p : Parts) → is_mixed p ≡ (is_grouped_by p && marked_have p.keys.items p.results.items p.orders.items)
-mixed_is p =
-    mixed_at (grouped p.keys.items (all_terms p.results.items (given p.orders.items))) p.keys.items p.results.items p.orders.items
-    ∙ ap (λ g. g && marked_have p.keys.items p.results.items p.orders.items) (grouped_is p)
+mixed_is : (outer : ℕ) (p : Parts) → is_mixed outer p ≡ (is_grouped_by p && marked_have outer p.keys.items p.results.items p.orders.items)
+mixed_is outer p =
+    mixed_at outer (grouped p.keys.items (all_terms p.results.items (given p.orders.items))) p.keys.items p.results.items p.orders.items
+    ∙ ap (λ g. g && marked_have outer p.keys.items p.results.items p.orders.items) (grouped_is p)
 
 astray_at : (d : Bool) (results : List (Term × ScopeColumn)) (os : List (Term × Bool))
     → (d && not false && list_any (λ o. is_other results o.0) (given os)) ≡ (d && list_any (λ o. is_no_result results o.0) os)
@@ -127,30 +127,30 @@ none_of a b c fs ha hb hc hf =
     ap (λ x. three x b c fs) ha ∙ (ap (λ x. three false x c fs) hb ∙ (ap (λ x. three false false x fs) hc ∙ ap (λ xs. three false false false xs) hf))
 
 -- the test over marked terms
-pub mixed_as : (p : Parts) (results : List Term) (orders : List (Term × Bool)) → results ≡ map (λ (r : Term × ScopeColumn). keyed p.keys.items r.0) p.results.items → orders ≡ map (λ (o : Term × Bool). (keyed p.keys.items o.0, o.1)) p.orders.items
-    → (is_grouped_by p && (list_any has_bare results || list_any (λ (o : Term × Bool). has_bare o.0) orders)) ≡ (is_grouped_by p && marked_have p.keys.items p.results.items p.orders.items)
-mixed_as p results orders hr ho =
-    ap (λ rs. is_grouped_by p && (list_any has_bare rs || list_any (λ (o : Term × Bool). has_bare o.0) orders)) hr
-    ∙ ap (λ os. is_grouped_by p && (list_any has_bare (map (λ (r : Term × ScopeColumn). keyed p.keys.items r.0) p.results.items) || list_any (λ (o : Term × Bool). has_bare o.0) os)) ho
+pub mixed_as : (outer : ℕ) (p : Parts) (results : List Term) (orders : List (Term × Bool)) → results ≡ map (λ (r : Term × ScopeColumn). keyed p.keys.items r.0) p.results.items → orders ≡ map (λ (o : Term × Bool). (keyed p.keys.items o.0, o.1)) p.orders.items
+    → (is_grouped_by p && (list_any (has_bare outer) results || list_any (λ (o : Term × Bool). has_bare outer o.0) orders)) ≡ (is_grouped_by p && marked_have outer p.keys.items p.results.items p.orders.items)
+mixed_as outer p results orders hr ho =
+    ap (λ rs. is_grouped_by p && (list_any (has_bare outer) rs || list_any (λ (o : Term × Bool). has_bare outer o.0) orders)) hr
+    ∙ ap (λ os. is_grouped_by p && (list_any (has_bare outer) (map (λ (r : Term × ScopeColumn). keyed p.keys.items r.0) p.results.items) || list_any (λ (o : Term × Bool). has_bare outer o.0) os)) ho
 
-pub mixed_refused : (q : Query) (p : Parts) (fault : Fault) → (is_grouped_by p && marked_have p.keys.items p.results.items p.orders.items) ≡ true → refusal_of fault ≡ Misuse → IsFaultOf (faults (reading_for q p)) fault
-mixed_refused q p fault h is =
-    first_of (is_mixed p) (is_astray q p) (nat_lt 64 (length p.results.items)) (flat_map (λ o. faults o.0) (given p.orders.items)) fault (mixed_is p ∙ h) is
+pub mixed_refused : (outer : ℕ) (q : Query) (p : Parts) (fault : Fault) → (is_grouped_by p && marked_have outer p.keys.items p.results.items p.orders.items) ≡ true → refusal_of fault ≡ Misuse → IsFaultOf (faults (reading_for outer q p)) fault
+mixed_refused outer q p fault h is =
+    first_of (is_mixed outer p) (is_astray q p) (nat_lt 64 (length p.results.items)) (flat_map (λ o. faults o.0) (given p.orders.items)) fault (mixed_is outer p ∙ h) is
 
-pub astray_refused : (q : Query) (p : Parts) (fault : Fault) → (q.is_distinct && list_any (λ o. is_no_result p.results.items o.0) p.orders.items) ≡ true → refusal_of fault ≡ Misuse → IsFaultOf (faults (reading_for q p)) fault
-astray_refused q p fault h is =
-    second_of (is_mixed p) (is_astray q p) (nat_lt 64 (length p.results.items)) (flat_map (λ o. faults o.0) (given p.orders.items)) fault (astray_at q.is_distinct p.results.items p.orders.items ∙ h) is
+pub astray_refused : (outer : ℕ) (q : Query) (p : Parts) (fault : Fault) → (q.is_distinct && list_any (λ o. is_no_result p.results.items o.0) p.orders.items) ≡ true → refusal_of fault ≡ Misuse → IsFaultOf (faults (reading_for outer q p)) fault
+astray_refused outer q p fault h is =
+    second_of (is_mixed outer p) (is_astray q p) (nat_lt 64 (length p.results.items)) (flat_map (λ o. faults o.0) (given p.orders.items)) fault (astray_at q.is_distinct p.results.items p.orders.items ∙ h) is
 
-pub many_refused : (q : Query) (p : Parts) (fault : Fault) → nat_lt 64 (length p.results.items) ≡ true → refusal_of fault ≡ TooLong → IsFaultOf (faults (reading_for q p)) fault
-many_refused q p fault h is =
-    third_of (is_mixed p) (is_astray q p) (nat_lt 64 (length p.results.items)) (flat_map (λ o. faults o.0) (given p.orders.items)) fault h is
+pub many_refused : (outer : ℕ) (q : Query) (p : Parts) (fault : Fault) → nat_lt 64 (length p.results.items) ≡ true → refusal_of fault ≡ TooLong → IsFaultOf (faults (reading_for outer q p)) fault
+many_refused outer q p fault h is =
+    third_of (is_mixed outer p) (is_astray q p) (nat_lt 64 (length p.results.items)) (flat_map (λ o. faults o.0) (given p.orders.items)) fault h is
 
-pub passed : (q : Query) (p : Parts) → (is_grouped_by p && marked_have p.keys.items p.results.items p.orders.items) ≡ false
+pub passed : (outer : ℕ) (q : Query) (p : Parts) → (is_grouped_by p && marked_have outer p.keys.items p.results.items p.orders.items) ≡ false
     → (q.is_distinct && list_any (λ o. is_no_result p.results.items o.0) p.orders.items) ≡ false → nat_lt 64 (length p.results.items) ≡ false
-    → reading_for q p ≡ Meant (meant (reading_for q p)) []
-passed q p ha hb hc =
-    ap (λ rs. Meant (meant (reading_for q p)) rs)
-    (none_of (is_mixed p) (is_astray q p) (nat_lt 64 (length p.results.items)) (flat_map (λ o. faults o.0) (given p.orders.items)) (mixed_is p ∙ ha) (astray_at q.is_distinct p.results.items p.orders.items ∙ hb) hc (orders_clean p.orders.items))
+    → reading_for outer q p ≡ Meant (meant (reading_for outer q p)) []
+passed outer q p ha hb hc =
+    ap (λ rs. Meant (meant (reading_for outer q p)) rs)
+    (none_of (is_mixed outer p) (is_astray q p) (nat_lt 64 (length p.results.items)) (flat_map (λ o. faults o.0) (given p.orders.items)) (mixed_is outer p ∙ ha) (astray_at q.is_distinct p.results.items p.orders.items ∙ hb) hc (orders_clean p.orders.items))
 
 -- ---- the reading
 
@@ -172,17 +172,17 @@ mark_is all (k ∷ ks) t =
     ap (λ b. mark (list_any has_total all || b) (k ∷ ks) t) (some_keys (length ks)) ∙ ap (λ b. mark b (k ∷ ks) t) (or_true (list_any has_total all))
 
 -- the reading of these parts, none of which is refused
-pub made : (q : Query) (p : Parts) (r : Reading) → r.sources ≡ p.joined.items → r.filter ≡ p.filter → r.is_grouped ≡ is_grouped_by p → r.keys ≡ p.keys.items
+pub made : (outer : ℕ) (q : Query) (p : Parts) (r : Reading) → r.sources ≡ p.joined.items → r.filter ≡ p.filter → r.is_grouped ≡ is_grouped_by p → r.keys ≡ p.keys.items
     → r.results ≡ map (λ (s : Term × ScopeColumn). keyed p.keys.items s.0) p.results.items → r.columns ≡ map (λ (s : Term × ScopeColumn). s.1) p.results.items → r.is_open ≡ false
     → r.order ≡ map (λ (o : Term × Bool). (keyed p.keys.items o.0, o.1)) p.orders.items
-    → r.distinct ≡ q.is_distinct → r.limit ≡ (meant (reading_for q p)).limit → r.offset ≡ (meant (reading_for q p)).offset
-    → reading_for q p ≡ Meant (meant (reading_for q p)) [] → reading_for q p ≡ Meant r []
-made q p r hs hf hg hk hr hc ho hord hd hl hoff good = good ∙ ap (λ x. Meant x []) (sym whole)
+    → r.distinct ≡ q.is_distinct → r.limit ≡ (meant (reading_for outer q p)).limit → r.offset ≡ (meant (reading_for outer q p)).offset
+    → reading_for outer q p ≡ Meant (meant (reading_for outer q p)) [] → reading_for outer q p ≡ Meant r []
+made outer q p r hs hf hg hk hr hc ho hord hd hl hoff good = good ∙ ap (λ x. Meant x []) (sym whole)
   where
     marks : (λ t. mark (grouped p.keys.items (all_terms p.results.items (given p.orders.items))) p.keys.items t) ≡ keyed p.keys.items
     marks = λ i t. mark_is (all_terms p.results.items (given p.orders.items)) p.keys.items t i
 
-    whole : r ≡ meant (reading_for q p)
+    whole : r ≡ meant (reading_for outer q p)
     whole = λ i. record {
       sources = hs i;
       filter = hf i;
@@ -228,26 +228,26 @@ closed scope (All ∷ is) h = ap (λ b. b || list_any (is_open_item scope) is) (
 closed scope (AllOf q ∷ is) h = ap (λ b. b || list_any (is_open_item scope) is) (none_within (is_own (Some q)) (λ s. not s.is_known) scope h) ∙ closed scope is h
 closed scope (Of e n ∷ is) h = closed scope is h
 
-pub clauses_named : (scope : List ScopeSource) (q : Query) (p : Parts) → AreTables scope
+pub clauses_named : (outer : ℕ) (scope : List ScopeSource) (q : Query) (p : Parts) → AreTables scope
     → resolve_filter scope q.condition ≡ Meant p.filter [] → known_all (map (resolve false scope) q.groups) ≡ Meant p.keys.items [] → resolve_items scope q.results ≡ Meant p.results.items []
     → orders_checked (map (order_given scope q.results p.results.items) q.order) ≡ Meant p.orders.items []
-    → resolve_clauses scope p.joined.items q ≡ reading_for q p
-clauses_named scope q p tables hf hk hr ho =
+    → resolve_clauses outer scope p.joined.items q ≡ reading_for outer q p
+clauses_named outer scope q p tables hf hk hr ho =
     then_good (resolve_filter scope q.condition) _ p.filter hf
     ∙ (then_good (known_all (map (resolve false scope) q.groups)) _ p.keys.items hk
     ∙ (then_good (resolve_items scope q.results) _ p.results.items hr
-    ∙ (ap (λ b. as_reading 0 q b p.joined.items p.filter p.keys.items p.results.items (map (order_given scope q.results p.results.items) q.order)) (closed scope q.results tables)
-    ∙ ap (λ os. as_reading 0 q false p.joined.items p.filter p.keys.items p.results.items os) (orders_are (map (order_given scope q.results p.results.items) q.order) p.orders.items ho))))
+    ∙ (ap (λ b. as_reading outer q b p.joined.items p.filter p.keys.items p.results.items (map (order_given scope q.results p.results.items) q.order)) (closed scope q.results tables)
+    ∙ ap (λ os. as_reading outer q false p.joined.items p.filter p.keys.items p.results.items os) (orders_are (map (order_given scope q.results p.results.items) q.order) p.orders.items ho))))
 
-pub filter_refused : (scope : List ScopeSource) (q : Query) (joined : List (Name × Condition)) (fault : Fault) → IsFaultOf (faults (resolve_filter scope q.condition)) fault → IsFaultOf (faults (resolve_clauses scope joined q)) fault
-filter_refused scope q joined fault h = refused_first (resolve_filter scope q.condition) _ fault h
+pub filter_refused : (outer : ℕ) (scope : List ScopeSource) (q : Query) (joined : List (Name × Condition)) (fault : Fault) → IsFaultOf (faults (resolve_filter scope q.condition)) fault → IsFaultOf (faults (resolve_clauses outer scope joined q)) fault
+filter_refused outer scope q joined fault h = refused_first (resolve_filter scope q.condition) _ fault h
 
-pub keys_refused : (scope : List ScopeSource) (q : Query) (joined : List (Name × Condition)) (fault : Fault) → IsFaultOf (faults (known_all (map (resolve false scope) q.groups))) fault → IsFaultOf (faults (resolve_clauses scope joined q)) fault
-keys_refused scope q joined fault h =
+pub keys_refused : (outer : ℕ) (scope : List ScopeSource) (q : Query) (joined : List (Name × Condition)) (fault : Fault) → IsFaultOf (faults (known_all (map (resolve false scope) q.groups))) fault → IsFaultOf (faults (resolve_clauses outer scope joined q)) fault
+keys_refused outer scope q joined fault h =
     refused_later (resolve_filter scope q.condition) _ fault (refused_first (known_all (map (resolve false scope) q.groups)) _ fault h)
 
-pub results_refused : (scope : List ScopeSource) (q : Query) (joined : List (Name × Condition)) (fault : Fault) → IsFaultOf (faults (resolve_items scope q.results)) fault → IsFaultOf (faults (resolve_clauses scope joined q)) fault
-results_refused scope q joined fault h =
+pub results_refused : (outer : ℕ) (scope : List ScopeSource) (q : Query) (joined : List (Name × Condition)) (fault : Fault) → IsFaultOf (faults (resolve_items scope q.results)) fault → IsFaultOf (faults (resolve_clauses outer scope joined q)) fault
+results_refused outer scope q joined fault h =
     refused_later (resolve_filter scope q.condition) _ fault (refused_later (known_all (map (resolve false scope) q.groups)) _ fault (refused_first (resolve_items scope q.results) _ fault h))
 
 in_orders : (a b c : Bool) (fs : List Refusal) (fault : Fault) → IsFaultOf fs fault → IsFaultOf (three a b c fs) fault
@@ -262,11 +262,11 @@ in_reading : (n : ℕ) (q : Query) (is_open : Bool) (joined : List (Name × Cond
 in_reading n q is_open joined filter keys results orders fault h =
     in_orders (mixed n keys results orders) (astray q is_open results orders) (nat_lt 64 (length results)) (faults (orders_checked orders)) fault h
 
-pub orders_refused : (scope : List ScopeSource) (q : Query) (joined : List (Name × Condition)) (results : List (Term × ScopeColumn)) (fault : Fault) → resolve_items scope q.results ≡ Meant results []
-    → IsFaultOf (faults (orders_checked (map (order_given scope q.results results) q.order))) fault → IsFaultOf (faults (resolve_clauses scope joined q)) fault
-orders_refused scope q joined results fault hr h =
+pub orders_refused : (outer : ℕ) (scope : List ScopeSource) (q : Query) (joined : List (Name × Condition)) (results : List (Term × ScopeColumn)) (fault : Fault) → resolve_items scope q.results ≡ Meant results []
+    → IsFaultOf (faults (orders_checked (map (order_given scope q.results results) q.order))) fault → IsFaultOf (faults (resolve_clauses outer scope joined q)) fault
+orders_refused outer scope q joined results fault hr h =
     refused_later (resolve_filter scope q.condition) _ fault (refused_later (known_all (map (resolve false scope) q.groups)) _ fault
     (refused_later (resolve_items scope q.results) _ fault
-    (in_reading 0 q (list_any (is_open_item scope) q.results) joined (meant (resolve_filter scope q.condition)) (meant (known_all (map (resolve false scope) q.groups))) (meant (resolve_items scope q.results))
+    (in_reading outer q (list_any (is_open_item scope) q.results) joined (meant (resolve_filter scope q.condition)) (meant (known_all (map (resolve false scope) q.groups))) (meant (resolve_items scope q.results))
     (map (order_given scope q.results (meant (resolve_items scope q.results))) q.order) fault
     (subst (λ k. IsFaultOf (faults (orders_checked (map (order_given scope q.results (meant k)) q.order))) fault) (sym hr) h))))

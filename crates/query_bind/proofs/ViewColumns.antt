@@ -111,11 +111,11 @@ none_is n l around name fault none neither why =
 -- ---- on a database
 
 -- what a query's names stand for on a database of which this is listed
-pub query_on : {X : Type 0} → KnowsListed → (view : X → Reading) (n : ℕ) (rows_at : ℕ → List (ℤ × List Value)) (l : Listed) (db : Database) → Lists rows_at l db → (around : List Name) (q : Query) (result : Result X Fault)
-    → NamesBy view (resolve_query (columns_in n l around) [] q) result → NamesBy view (resolve_query (columns_of n db around) [] q) result
-query_on knows view n rows_at l db lists around q result h =
+pub query_on : {X : Type 0} → KnowsListed → (view : X → Reading) (n : ℕ) (rows_at : ℕ → List (ℤ × List Value)) (l : Listed) (db : Database) → Lists rows_at l db → (around : List Name) (outer : List ScopeSource) (q : Query) (result : Result X Fault)
+    → NamesBy view (resolve_query (columns_in n l around) outer q) result → NamesBy view (resolve_query (columns_of n db around) outer q) result
+query_on knows view n rows_at l db lists around outer q result h =
     let same : columns_of n db around ≡ columns_in n l around = λ i name. knows rows_at l db lists n around name i in
-    subst (λ (look : Lookup). NamesBy view (resolve_query look [] q) result) (sym same) h
+    subst (λ (look : Lookup). NamesBy view (resolve_query look outer q) result) (sym same) h
 
 -- what was found, as a source of this name
 abbrev pub as_source : Name → List ScopeColumn × Bool → ScopeSource

@@ -1,6 +1,6 @@
 -- The parts of a query, looked up among listed tables and views (SQL As Understood By SQLite, "SELECT").
 use Rattle.std.specs.Prelude.{◌≡◌, ℕ, zero, suc, Bool, true, false, not, ◌||◌, List, [], ◌∷◌, ◌++◌, map, flat_map, length, Option, Some, None, is_some, nat_lt, option_map}
-use Rattle.std.specs.List.{list_any}
+use Rattle.std.specs.List.{AllByRecursion, list_any}
 use Rattle.std.specs.Option.{option_or}
 use Rattle.sqlval.specs.Names.{folded}
 use Rattle.sqlval.specs.Refusals.{TooLong}
@@ -23,7 +23,7 @@ use Rattle.query_names.specs.Expressions.{resolve}
 use Rattle.query_names.specs.Grouping.{has_total}
 use Rattle.query_names.specs.Known.{columns_in}
 use Rattle.query_names.specs.Queries.{Lookup, as_reading, is_open_item, plain_name, resolve_filter, resolve_items, resolve_join, resolve_order, resolve_query, source_name}
-use Rattle.query_names.specs.Scopes.{source_of}
+use Rattle.query_names.specs.Scopes.{beside, source_of}
 use Rattle.query_names.specs.Views.{unless_around, view_columns}
 use Rattle.query_names.specs.declared.queries.BoundSource.{BoundSource}
 use Rattle.query_names.specs.declared.queries.Origin.{Origin}
@@ -40,6 +40,10 @@ use Rattle.query_bind.specs.declared.querying.Parts.{Parts}
 -- each source is known
 abbrev pub AreTables : List ScopeSource → Type 0
 AreTables scope = list_any (λ s. not s.is_known) scope ≡ false
+
+-- each source is known, and is reached by its name alone, as NEW and OLD are
+abbrev pub AreOuter : List ScopeSource → Type 0
+AreOuter scope = AllByRecursion (λ s. (s.is_known ≡ true) × (s.needs_name ≡ true)) scope
 
 -- one source after others, whose columns are these: all that are seen then, and the source with its condition
 abbrev pub source_joined : List ScopeSource → JoinKind → Source → Option Tree → Checked (List ScopeColumn × Bool)
@@ -67,6 +71,10 @@ onto_sources joined k = known_map (λ s. (s.0, joined ++ s.1)) k
 abbrev pub sources_from : Option FromClause → List Join
 sources_from None = []
 sources_from (Some f) = record { kind = join.Comma; source = f.first; condition = None } ∷ f.joins
+
+-- NEW and OLD, as far as they are reached beside the sources of FROM
+abbrev pub outer_shown : List ScopeSource → Option FromClause → List ScopeSource
+outer_shown outer from = beside outer (map (λ j. source_name j.source) (sources_from from))
 
 -- where a table's tree begins, and how its rows lie in records
 abbrev pub place_seen : Table → BoundSource
@@ -124,15 +132,15 @@ orders_checked orders = Meant (map (λ o. (meant o.0, o.1)) orders) (flat_map (�
 abbrev pub is_grouped_by : Parts → Bool
 is_grouped_by p = list_any (λ r. has_total r.0) p.results.items || list_any (λ o. has_total o.0) p.orders.items || nat_lt 0 (length p.keys.items)
 
--- the reading of a query of these parts, none of which is refused by itself
-abbrev pub reading_for : Query → Parts → Checked Reading
-reading_for q p =
-    as_reading 0 q false p.joined.items p.filter p.keys.items p.results.items (map (λ o. (good o.0, o.1)) p.orders.items)
+-- the reading of a query of these parts, none of which is refused by itself; so many sources of a trigger stand before its own
+abbrev pub reading_for : ℕ → Query → Parts → Checked Reading
+reading_for outer q p =
+    as_reading outer q false p.joined.items p.filter p.keys.items p.results.items (map (λ o. (good o.0, o.1)) p.orders.items)
 
--- a query whose sources are looked up
-abbrev pub resolve_clauses : List ScopeSource → List (Name × Condition) → Query → Checked Reading
-resolve_clauses scope joined q =
+-- a query whose sources are looked up, so many of them a trigger's
+abbrev pub resolve_clauses : ℕ → List ScopeSource → List (Name × Condition) → Query → Checked Reading
+resolve_clauses outer scope joined q =
     resolve_filter scope q.condition and_then λ filter.
     known_all (map (resolve false scope) q.groups) and_then λ keys.
     resolve_items scope q.results and_then λ results.
-    as_reading 0 q (list_any (is_open_item scope) q.results) joined filter keys results (map (order_given scope q.results results) q.order)
+    as_reading outer q (list_any (is_open_item scope) q.results) joined filter keys results (map (order_given scope q.results results) q.order)

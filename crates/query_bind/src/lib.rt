@@ -2,6 +2,7 @@
 #![tactic(auto)]
 
 mod assigning;
+mod beside;
 mod changing;
 mod clauses;
 mod copying;
@@ -20,5 +21,5 @@ pub use changing::{bind_places, bind_source, bind_values};
 pub use clauses::bind_filter;
 pub use filtering::bind_where;
 pub use indexed::{BoundIndex, bind_index, indexes_are_created_as_defined};
-pub use querying::{BoundReading, bind_reading};
+pub use querying::{BoundReading, bind_reading, bind_reading_beside};
 pub use triggers::{bind_trigger, fit_target, triggers_are_created_as_defined};

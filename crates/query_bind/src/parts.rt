@@ -1,6 +1,6 @@
 //! What a term has in it: aggregates, and columns outside of them.
 
-ghost use Rattle.std.specs.Prelude.{◌≡◌, true, false};
+ghost use Rattle.std.specs.Prelude.{◌≡◌, ◌||◌, true, false};
 ghost use Rattle.std.specs.List.{list_any};
 ghost use Rattle.query_terms.specs.Terms.{same_term, terms};
 ghost use Rattle.query_names.specs.Grouping as part;
@@ -45,35 +45,43 @@ fn any_has_total(list: &[Term]) -> bool
     }
 }
 
-/// Whether a column stands in a term, outside aggregates and keys.
+/// Whether a column of a source after the first so many stands in a term, outside aggregates and keys.
 #[cycle(has_cell)]
-pub fn has_cell(term: &Term) -> bool
-    ensures { result ≡ has false (is_own_cell 0) term.now }
+pub fn has_cell(outer: usize, term: &Term) -> bool
+    ensures { result ≡ has false (is_own_cell outer) term.now }
 {
     match &term.node {
-        Node::Cell(_, _, _, _) => true,
-        Node::Apply(_, list) => any_has_cell(list),
-        Node::One(_, operand) | Node::Collate(_, operand) => has_cell(operand),
-        Node::Two(_, left, right) => has_cell(left) || has_cell(right),
-        Node::In(_, operand, list) => has_cell(operand) || any_has_cell(list),
+        Node::Cell(source, _, _, _) => *source >= outer,
+        Node::Apply(_, list) => any_has_cell(outer, list),
+        Node::One(_, operand) | Node::Collate(_, operand) => has_cell(outer, operand),
+        Node::Two(_, left, right) => either_has_cell(outer, left, right),
+        Node::In(_, operand, list) => has_cell(outer, operand) || any_has_cell(outer, list),
         Node::Between(_, operand, low, high) => {
-            has_cell(operand) || has_cell(low) || has_cell(high)
+            either_has_cell(outer, operand, low) || has_cell(outer, high)
         }
         _ => false,
     }
 }
 
+/// Whether one stands so in one of two terms.
+#[cycle(has_cell)]
+fn either_has_cell(outer: usize, left: &Term, right: &Term) -> bool
+    ensures { result ≡ (has false (is_own_cell outer) left.now || has false (is_own_cell outer) right.now) }
+{
+    has_cell(outer, left) || has_cell(outer, right)
+}
+
 /// Whether one stands so in a term of the list.
 #[cycle(has_cell)]
-fn any_has_cell(list: &[Term]) -> bool
-    ensures { result ≡ has_in false (is_own_cell 0) (terms list.now) }
+fn any_has_cell(outer: usize, list: &[Term]) -> bool
+    ensures { result ≡ has_in false (is_own_cell outer) (terms list.now) }
 {
     let mut rest = list;
     'terms: loop {
         let Some((term, behind)) = rest.split_first() else {
             return false;
         };
-        if has_cell(term) {
+        if has_cell(outer, term) {
             return true;
         }
         rest = behind;
@@ -94,18 +102,18 @@ pub fn orders_have_total(orders: &[(Term, bool)]) -> bool
     orders.iter().any(|one| has_total(&one.0))
 }
 
-/// Whether a column stands in one of the terms, outside aggregates and keys.
-pub fn results_have_cell(results: &[Term]) -> bool
-    ensures { result ≡ list_any (λ t. has false (is_own_cell 0) t) results.now }
+/// Whether one stands so in one of the terms.
+pub fn results_have_cell(outer: usize, results: &[Term]) -> bool
+    ensures { result ≡ list_any (λ t. has false (is_own_cell outer) t) results.now }
 {
-    results.iter().any(has_cell)
+    results.iter().any(|one| has_cell(outer, one))
 }
 
-/// Whether a column stands so in ORDER BY.
-pub fn orders_have_cell(orders: &[(Term, bool)]) -> bool
-    ensures { result ≡ list_any (λ o. has false (is_own_cell 0) o.0) orders.now }
+/// Whether one stands so in ORDER BY.
+pub fn orders_have_cell(outer: usize, orders: &[(Term, bool)]) -> bool
+    ensures { result ≡ list_any (λ o. has false (is_own_cell outer) o.0) orders.now }
 {
-    orders.iter().any(|one| has_cell(&one.0))
+    orders.iter().any(|one| has_cell(outer, &one.0))
 }
 
 /// Whether a term is one of the results.

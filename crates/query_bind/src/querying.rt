@@ -12,8 +12,9 @@ ghost use Rattle.query_names.specs.Named.{Names, NamesBy};
 ghost use Rattle.query_names.specs.Queries as query;
 ghost use Rattle.query_names.specs.Queries.{resolve_query};
 ghost use Rattle.query_names.specs.Views.{look_up};
-ghost use Rattle.query_bind.specs.Named.{ArePlaced, AreTables, is_grouped_by, is_no_result, reading_for, resolve_clauses};
+ghost use Rattle.query_bind.specs.Named.{AreOuter, ArePlaced, AreTables, is_grouped_by, is_no_result, reading_for, resolve_clauses};
 
+use crate::beside::expect_known;
 use crate::clauses::{bind_filter, bind_keys, bind_orders};
 use crate::marking::{marked_orders, marked_results};
 use crate::parts::{
@@ -77,12 +78,12 @@ fn count_of(limit: Option<Limit>) -> Option<u64>
     }
 }
 
-/// Whether, in a query with groups, a column stands outside aggregates and keys.
-fn is_mixed(parts: &Parts, results: &[Term], orders: &[(Term, bool)]) -> bool
-    ensures { result ≡ (is_grouped_by parts.now && (list_any (has false (is_own_cell 0)) results.now
-        || list_any (λ o. has false (is_own_cell 0) o.0) orders.now)) }
+/// Whether, in a query with groups, a column of its own sources stands outside aggregates and keys; so many of a trigger stand before them.
+fn is_mixed(outer: usize, parts: &Parts, results: &[Term], orders: &[(Term, bool)]) -> bool
+    ensures { result ≡ (is_grouped_by parts.now && (list_any (has false (is_own_cell outer)) results.now
+        || list_any (λ o. has false (is_own_cell outer) o.0) orders.now)) }
 {
-    is_grouped(parts) && (results_have_cell(results) || orders_have_cell(orders))
+    is_grouped(parts) && (results_have_cell(outer, results) || orders_have_cell(outer, orders))
 }
 
 /// Whether the rows are told apart, and ORDER BY has a term that is none of the results.
@@ -95,12 +96,18 @@ fn is_astray(query: &Query, parts: &Parts) -> bool
 
 /// Refuses a column that is neither grouped nor in an aggregate, a DISTINCT whose ORDER BY names no result, and results past
 /// the limit.
-fn check_parts(query: &Query, parts: &Parts, results: &[Term], orders: &[(Term, bool)]) -> R<()>
+fn check_parts(
+    outer: usize,
+    query: &Query,
+    parts: &Parts,
+    results: &[Term],
+    orders: &[(Term, bool)],
+) -> R<()>
     ensures { results.now ≡ map (λ r. keyed parts.now.keys.items r.0) parts.now.results.items
         → orders.now ≡ map (λ o. (keyed parts.now.keys.items o.0, o.1)) parts.now.orders.items
-        → NamesBy (λ done. meant (reading_for query.now parts.now)) (reading_for query.now parts.now) result }
+        → NamesBy (λ done. meant (reading_for outer query.now parts.now)) (reading_for outer query.now parts.now) result }
 {
-    if is_mixed(parts, results, orders) {
+    if is_mixed(outer, parts, results, orders) {
         return Err(Fault::Misuse(Misuse::Ungrouped));
     }
     if is_astray(query, parts) {
@@ -112,14 +119,14 @@ fn check_parts(query: &Query, parts: &Parts, results: &[Term], orders: &[(Term, 
     Ok(())
 }
 
-/// The reading of a query of these parts.
-fn reading_of(alloc: Global, query: &Query, parts: Parts) -> R<Reading>
-    ensures named { Names (reading_for query.now parts) result }
+/// The reading of a query of these parts; so many sources of a trigger stand before its own.
+fn reading_of(alloc: Global, outer: usize, query: &Query, parts: Parts) -> R<Reading>
+    ensures named { Names (reading_for outer query.now parts) result }
     ensures closed { IfOk result (λ reading. reading.is_open ≡ false) }
 {
     let results = marked_results(alloc, &parts.keys, &parts.results)?;
     let order = marked_orders(alloc, &parts.keys, &parts.orders)?;
-    check_parts(query, &parts, &results, &order)?;
+    check_parts(outer, query, &parts, &results, &order)?;
     let columns = columns_of(alloc, &parts.results)?;
     let is_grouped = is_grouped(&parts);
     Ok(Reading {
@@ -137,14 +144,15 @@ fn reading_of(alloc: Global, query: &Query, parts: Parts) -> R<Reading>
     })
 }
 
-/// The reading of a query whose sources are looked up.
+/// The reading of a query whose sources are looked up, so many of them a trigger's.
 pub fn bind_clauses(
     alloc: Global,
+    outer: usize,
     scope: &[ScopeSource],
     joined: Vec<(Name, Condition)>,
     query: &Query,
 ) -> R<Reading>
-    ensures named { AreTables scope.now → Names (resolve_clauses scope.now joined.items query.now) result }
+    ensures named { AreTables scope.now → Names (resolve_clauses outer scope.now joined.items query.now) result }
     ensures closed { IfOk result (λ reading. reading.is_open ≡ false) }
 {
     let items = query.results.as_slice();
@@ -154,6 +162,7 @@ pub fn bind_clauses(
     let filter = bind_filter(alloc, scope, &query.condition)?;
     reading_of(
         alloc,
+        outer,
         query,
         Parts {
             joined,
@@ -175,6 +184,25 @@ pub fn bind_reading(alloc: Global, catalog: &Catalog, query: &Query) -> R<BoundR
     ensures closed { IfOk result (λ bound. bound.reading.is_open ≡ false) }
     ensures not_disk { IfErr result (λ fault. IsNotDiskFault fault) }
 {
+    bind_reading_beside(alloc, catalog, &[], query)
+}
+
+/// The same inside a trigger's program, which sees NEW and OLD by name. (And `NoSuch` for one of them that isn't known.)
+pub fn bind_reading_beside(
+    alloc: Global,
+    catalog: &Catalog,
+    outer: &[ScopeSource],
+    query: &Query,
+) -> R<BoundReading>
+    ensures named { (rows_at : ℕ → List (ℤ × List Value)) (db : Database) → AreOuter outer.now
+        → Lists rows_at (listed_in catalog.now) db
+        → NamesBy (λ bound. bound.reading) (resolve_query (look_up db) outer.now query.now) result }
+    ensures placed { IfOk result (λ bound. ArePlaced
+        (listed_in catalog.now) bound.reading.sources bound.origins) }
+    ensures closed { AreOuter outer.now → IfOk result (λ bound. bound.reading.is_open ≡ false) }
+    ensures not_disk { IfErr result (λ fault. IsNotDiskFault fault) }
+{
     listed_tables_are_known();
-    bind_query(alloc, catalog, MAX_VIEWS, &[], query)
+    expect_known(alloc, outer)?;
+    bind_query(alloc, catalog, MAX_VIEWS, &[], outer, query)
 }

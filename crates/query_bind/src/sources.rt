@@ -67,7 +67,7 @@ pub fn table_found(alloc: Global, table: &Table) -> R<Found>
 }
 
 /// The name of a source in its query.
-fn name_of(source: &Source) -> &Name
+pub fn name_of(source: &Source) -> &Name
     ensures { spelled.folded result.now ≡ meant.source_name source.now }
 {
     match &source.alias {

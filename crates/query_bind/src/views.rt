@@ -11,13 +11,14 @@ ghost use Rattle.query_names.specs.Known.{columns_in};
 ghost use Rattle.query_names.specs.Named.{NamesBy};
 ghost use Rattle.query_names.specs.Queries.{resolve_query, resolve_sources};
 ghost use Rattle.query_names.specs.Views as meant;
-ghost use Rattle.query_bind.specs.Named.{ArePlaced, AreTables, IsOriginOf, column_renamed, onto_source, onto_sources, resolve_source, sources_from, view_in};
+ghost use Rattle.query_bind.specs.Named.{ArePlaced, AreTables, IsOriginOf, column_renamed, onto_source, onto_sources, outer_shown, resolve_source, sources_from, view_in};
 
+use crate::beside::outer_beside;
 use crate::copying::column_copy;
 use crate::querying::{BoundReading, bind_clauses};
 use crate::sources::{Found, Sources, join_source, table_found};
 use catalog::{Catalog, View};
-use query_names::{Origin, Reading, ScopeColumn, folded, missing};
+use query_names::{Origin, Reading, ScopeColumn, ScopeSource, folded, missing};
 use sql_syntax::{Expr, FromClause, Join, JoinKind, Query, Source, ViewDefinition};
 use sqlval::{Fault, Many, Misuse, Name, Object, R};
 use std::alloc::Global;
@@ -121,6 +122,7 @@ fn bind_view(
         catalog,
         room - 1,
         within.as_slice(),
+        &[],
         &view.definition.query,
     )?;
     listed_columns(alloc, view, &bound.reading)
@@ -228,23 +230,25 @@ fn add_joins(
     Ok(())
 }
 
-/// The sources of a query.
+/// The sources of a query, after those of the trigger that it stands in.
 #[cycle(views)]
 fn bind_sources(
     alloc: Global,
     catalog: &Catalog,
     room: usize,
     around: &[Name],
+    outer: &[ScopeSource],
     from: &Option<FromClause>,
 ) -> R<Sources>
-    ensures named { NamesBy (λ found. (found.scope.items, found.joined.items))
-        (resolve_sources (columns_in room (listed_in catalog.now) around.now) [] (sources_from from.now)) result }
-    ensures seen { IfOk result (λ found. AreTables found.scope.items) }
+    ensures named { AreTables outer.now → NamesBy (λ found. (found.scope.items, found.joined.items))
+        (resolve_sources (columns_in room (listed_in catalog.now) around.now) (outer_shown outer.now from.now)
+        (sources_from from.now)) result }
+    ensures seen { AreTables outer.now → IfOk result (λ found. AreTables found.scope.items) }
     ensures placed { IfOk result (λ found. ArePlaced
         (listed_in catalog.now) found.joined.items found.origins.items) }
 {
     let mut found = Sources {
-        scope: Vec::new(alloc),
+        scope: outer_beside(alloc, outer, from)?,
         joined: Vec::new(alloc),
         origins: Vec::new(alloc),
     };
@@ -272,18 +276,19 @@ fn bind_sources(
 }
 
 /// A query's reading, and where its sources' rows come from, with room for so many views one within another; around are the views that
-/// it stands in.
+/// it stands in, and outer what it sees of a trigger.
 #[cycle(views)]
 pub fn bind_query(
     alloc: Global,
     catalog: &Catalog,
     room: usize,
     around: &[Name],
+    outer: &[ScopeSource],
     query: &Query,
 ) -> R<BoundReading>
-    ensures named { NamesBy (λ bound. bound.reading)
-        (resolve_query (columns_in room (listed_in catalog.now) around.now) [] query.now) result }
-    ensures placed { IfOk result (λ bound. ArePlaced
+    ensures named { AreTables outer.now → NamesBy (λ bound. bound.reading)
+        (resolve_query (columns_in room (listed_in catalog.now) around.now) outer.now query.now) result }
+    ensures placed { AreTables outer.now → IfOk result (λ bound. ArePlaced
         (listed_in catalog.now) bound.reading.sources bound.origins) }
     ensures closed { IfOk result (λ bound. bound.reading.is_open ≡ false) }
 {
@@ -291,8 +296,8 @@ pub fn bind_query(
         scope,
         joined,
         origins,
-    } = bind_sources(alloc, catalog, room, around, &query.from)?;
-    let reading = bind_clauses(alloc, scope.as_slice(), joined, query)?;
+    } = bind_sources(alloc, catalog, room, around, outer, &query.from)?;
+    let reading = bind_clauses(alloc, outer.len(), scope.as_slice(), joined, query)?;
     Ok(BoundReading {
         reading,
         origins: Many::from_vec(origins),

@@ -51,7 +51,7 @@ abbrev pub Fire : Type 0
 Fire = TriggerTime → Firing → Database → Answer Database
 
 -- an event at a row of a table
-abbrev firing : Name → Event → Table → Option Row → Option Row → Firing
+abbrev pub firing : Name → Event → Table → Option Row → Option Row → Firing
 firing n event t new old = record { target = n; event = event; columns = table_scope t; has_rowid = true; new = new; old = old }
 
 -- The values, each for the column of its place. The triggers before it come before the rowid is settled and the constraints are looked at;
@@ -66,12 +66,12 @@ insert_row fire n places db given =
     stored db n t id (with_rowid t id vs) then λ db.
     fire After (firing n Inserting t (Some (row_of id (with_rowid t id vs))) None) db
 
-abbrev same_row : Option (List Value) → List Value → Bool
+abbrev pub same_row : Option (List Value) → List Value → Bool
 same_row None vs = false
 same_row (Some ws) vs = pointwise is_same_value ws vs
 
 -- the row as it was before its BEFORE triggers
-abbrev unchanged : Database → Name → ℤ → List Value → Answer Table
+abbrev pub unchanged : Database → Name → ℤ → List Value → Answer Table
 unchanged db n id vs = table_of db n then λ t. demand (same_row (row t id) vs) RowChangedBefore then λ _. Ok t
 
 -- What SET gives, over the row that has the rowid now; a row that is gone is passed over.

@@ -131,7 +131,7 @@ fn set_each(alloc: Global, values: &mut Vec<Value>, sets: &[(usize, Term)], env:
 }
 
 /// The values as their columns store them. (What `stored_value` refuses, in order.)
-fn stored(alloc: Global, columns: &[Column], values: &[Value]) -> R<Vec<Value>>
+pub fn stored_row(alloc: Global, columns: &[Column], values: &[Value]) -> R<Vec<Value>>
     ensures { AnswersBy (λ new. new.items) (with_affinity (map as_column columns.now) values.now) result }
 {
     let mut new = Vec::new(alloc);
@@ -200,7 +200,7 @@ fn changed_row(
     let picked = [place];
     let env = env_at(rows, picked.as_slice());
     set_each(alloc, &mut values, sets, env)?;
-    let values = stored(alloc, table.columns.as_slice(), &values)?;
+    let values = stored_row(alloc, table.columns.as_slice(), &values)?;
     let rowid = rowid_now(&values, table.own_column(), rowid_at(rows, place))?;
     let row = TableRow { rowid, values };
     check_row(alloc, table, &row)?;

@@ -52,11 +52,13 @@ program_scope db a =
     old Inserting = None
     old _ = Some nothing
 
-abbrev when_faults : Outer → Option Tree → List Refusal
+-- of WHEN
+abbrev pub when_faults : Outer → Option Tree → List Refusal
 when_faults outer None = []
 when_faults outer (Some e) = faults (resolve false outer.scope e)
 
-abbrev statement_faults : (Outer → Change → List Refusal) → Database → Outer → TriggerStatement → List Refusal
+-- of a statement of a program, where f gives those of a change
+abbrev pub statement_faults : (Outer → Change → List Refusal) → Database → Outer → TriggerStatement → List Refusal
 statement_faults f db outer (program.Change c) = f outer c
 statement_faults f db outer (program.Select q) = faults (resolve_query (look_up db) outer.scope q)
 

@@ -27,49 +27,56 @@ abbrev pub given_rows : Database → Outer → Given → Answer (List (List Valu
 given_rows db outer (GivenRows rows) = all_answers (map (values (env_of outer.rows)) rows)
 given_rows db outer (GivenQuery q) = answer_of db outer.rows q
 
-abbrev chosen : Outer → Option Term → Row → Answer (List Row)
+-- the row, where WHERE keeps it
+abbrev pub chosen : Outer → Option Term → Row → Answer (List Row)
 chosen outer None r = Ok (r ∷ [])
 chosen outer (Some w) r = holds w (outer.rows ++ r ∷ []) then elim [ Some true ↦ Ok (r ∷ []) | _ ↦ Ok [] ]
 
 -- the rows of a table or view that WHERE keeps: all are chosen before the first is changed
-abbrev chosen_rows : Database → Outer → Name → Option Term → Answer (List Row)
+abbrev pub chosen_rows : Database → Outer → Name → Option Term → Answer (List Row)
 chosen_rows db outer n w = all_rows db n then λ rows. all_answers (map (chosen outer w) rows) then λ rs. Ok (flat_map (λ r. r) rs)
 
-abbrev id_of : Row → ℤ
+-- its rowid
+abbrev pub id_of : Row → ℤ
 id_of r = elim r.rowid [ Int z ↦ z | _ ↦ pos 0 ]
 
 -- ---- a row of a view: its triggers run, and nothing is stored
 
-abbrev scope_of : Database → Name → List ScopeColumn
+-- the columns of a table or view
+abbrev pub scope_of : Database → Name → List ScopeColumn
 scope_of db n = (meant (look_up db n)).0
 
-abbrev instead : Runner → List Name → Name → Event → List ScopeColumn → Option Row → Option Row → Database → Answer Database
+-- what stands in the place of a change of a row of a view
+abbrev pub instead : Runner → List Name → Name → Event → List ScopeColumn → Option Row → Option Row → Database → Answer Database
 instead run running n event cs new old db =
     fired run running InsteadOf (record { target = n; event = event; columns = cs; has_rowid = false; new = new; old = old }) db
 
-abbrev view_row : List Value → Row
+-- a row of a view
+abbrev pub view_row : List Value → Row
 view_row vs = record { rowid = Null; values = vs }
 
-abbrev nulls : {A : Type 0} → List A → List Value
+-- as many NULLs
+abbrev pub nulls : {A : Type 0} → List A → List Value
 nulls cs = map (λ c. Null) cs
 
 -- a view that has no trigger for the event can't be changed
-abbrev on_view : Database → Name → Event → Answer (Unit {0})
+abbrev pub on_view : Database → Name → Event → Answer (Unit {0})
 on_view db n event = demand (nat_lt 0 (length (triggers_at InsteadOf event db n))) ViewReadOnly
 
 -- ---- statements
 
-abbrev is_table : Option Object → Bool
+-- it is a table
+abbrev pub is_table : Option Object → Bool
 is_table (Some (ATable t)) = true
 is_table _ = false
 
-abbrev insert_into_view : Runner → List Name → Outer → Database → Name → List ℕ → Given → Answer Database
+abbrev pub insert_into_view : Runner → List Name → Outer → Database → Name → List ℕ → Given → Answer Database
 insert_into_view run running outer db n places given =
     on_view db n Inserting then λ _. given_rows db outer given then λ rows.
     let cs = scope_of db n in
     fold_answer (λ db vs. instead run running n Inserting cs (Some (view_row (set_values (nulls cs) (zip places vs)))) None db) db rows
 
-abbrev update_view : Runner → List Name → Outer → Database → Name → List (ℕ × Term) → List Name → Option Term → Answer Database
+abbrev pub update_view : Runner → List Name → Outer → Database → Name → List (ℕ × Term) → List Name → Option Term → Answer Database
 update_view run running outer db n sets set w =
     on_view db n (Updating set) then λ _. chosen_rows db outer n w then λ rows.
     let cs = scope_of db n in
@@ -77,7 +84,7 @@ update_view run running outer db n sets set w =
     values (env_of (outer.rows ++ r ∷ [])) (map (λ s. s.1) sets) then λ given.
     instead run running n (Updating set) cs (Some (view_row (set_values r.values (zip (map (λ s. s.0) sets) given)))) (Some r) db) db rows
 
-abbrev delete_from_view : Runner → List Name → Outer → Database → Name → Option Term → Answer Database
+abbrev pub delete_from_view : Runner → List Name → Outer → Database → Name → Option Term → Answer Database
 delete_from_view run running outer db n w =
     on_view db n Deleting then λ _. chosen_rows db outer n w then λ rows.
     let cs = scope_of db n in
@@ -103,7 +110,7 @@ abbrev pub change_with : Runner → List Name → Outer → Database → Change 
 change_with run running outer db c = known_then (resolve_change db outer c) (run_resolved run running outer db)
 
 -- a statement of a program; the rows of a SELECT are left
-abbrev run_statement : Runner → List Name → Outer → Database → TriggerStatement → Answer Database
+abbrev pub run_statement : Runner → List Name → Outer → Database → TriggerStatement → Answer Database
 run_statement run running outer db (program.Change c) = change_with run running outer db c
 run_statement run running outer db (program.Select q) = known_then (resolve_query (look_up db) outer.scope q) λ r. answer_of db outer.rows r then λ _. Ok db
 

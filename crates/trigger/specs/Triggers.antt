@@ -52,12 +52,12 @@ abbrev pub Runner : Type 0
 Runner = List Name → Outer → Database → List TriggerStatement → Answer Database
 
 -- WHEN, where it is written, is true
-abbrev when_holds : Outer → Option Tree → Answer Bool
+abbrev pub when_holds : Outer → Option Tree → Answer Bool
 when_holds outer None = Ok true
 when_holds outer (Some e) = known_then (resolve false outer.scope e) λ t. holds t outer.rows then elim [ Some true ↦ Ok true | _ ↦ Ok false ]
 
 -- a trigger that is running isn't set off again
-abbrev run_trigger : Runner → List Name → Outer → Database → Name × TriggerDefinition → Answer Database
+abbrev pub run_trigger : Runner → List Name → Outer → Database → Name × TriggerDefinition → Answer Database
 run_trigger run running outer db t =
     if list_any (is_same_name t.0) running then Ok db
     else (when_holds outer t.1.condition then λ b.

@@ -70,8 +70,8 @@ fn meets(event: &TriggerEvent, by: RowEvent<'_>) -> bool
     }
 }
 
-/// Whether an event at the table or view of this name sets a trigger off.
-fn sets_off(trigger: &Trigger, target: &Name, event: RowEvent<'_>) -> bool
+/// Whether an event at the table or view of this name sets a trigger off, at whatever time.
+pub fn sets_off(trigger: &Trigger, target: &Name, event: RowEvent<'_>) -> bool
     ensures { result ≡ (is_on target.now trigger.now && is_set_off trigger.now.definition.event (event_of event.entry)) }
 {
     target.is_same(trigger.definition.target.as_str()) && meets(&trigger.definition.event, event)

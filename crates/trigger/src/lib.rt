@@ -5,7 +5,7 @@ mod events;
 
 ghost use Rattle.trigger.specs.Laws.{BindsAlone, DeleteTakesChosen, DeleteTakesRows, InsertAddsRows, InsertIsRefused, InsertOfNoneStays, SetsNothingOff, UpdateSetsRows, ViewsAreReadOnly};
 
-pub use events::{RowEvent, is_still};
+pub use events::{RowEvent, is_still, sets_off};
 use row_change::{delete_takes_its_rows, insert_adds_its_rows, update_sets_its_rows};
 
 /// Where no trigger is set off, an INSERT adds its rows, or is refused as they are, and a DELETE takes all rows out, or those for which its condition is true.

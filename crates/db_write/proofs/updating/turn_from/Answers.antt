@@ -36,15 +36,16 @@ places-preserved g c =
     let rows = c.args.rows.now in
     let left = c.places.left.now in
     let place = slice_index_or left 0 0 in
+    let came = c.in_ok-turn_row.field-0 in
     record {
       kept = c.in_ok-turn_row.ensures.kept ∙ c.places.invariant.kept;
       causes = search rules;
       decides = λ told end result rest.
           (let new = pages.map c.turn_row.new.pages in
-          let does = since pages.below pages.tells pages.limits old mid (λ (n : ℕ). TurnsRow (pages.map mid) new n table sets (row_at rows place) (Ok tt)) c.places.invariant.kept c.in_ok-turn_row.ensures.turned told in
+          let does = since pages.below pages.tells pages.limits old mid (λ (n : ℕ). TurnsRow (pages.map mid) new n table sets (row_at rows place) (Ok came)) c.places.invariant.kept c.in_ok-turn_row.ensures.turned told in
           c.places.invariant.decides told end result
           (subst (λ (them : List Row). TurnsFrom (pages.map mid) end size table sets them result) (first_source rows left c.in-len1-up.len_at_least)
-          (turns_more (pages.map mid) new size table sets (row_at rows place) (map (row_at rows) (take (length left - 1) (drop 1 left))) end result does rest)));
+          (turns_more (pages.map mid) new size table sets (row_at rows place) (map (row_at rows) (take (length left - 1) (drop 1 left))) end came result does rest)));
     }
 
 pub returns-clause-turned : goal.returns-clause-turned

@@ -1,16 +1,4 @@
-use Rattle.std.proofs.Common.{[]}
-use Rattle.catalog.specs.Listed.{listed_in}
-use Rattle.query_names.specs.Known.{columns_in}
-use Rattle.query_names.specs.Queries.{resolve_query}
-use Rattle.query_bind.proofs.Quiet.{of_listed_query, refused_calm}
-use Rattle.query_bind.proofs.ViewColumns.{query_on}
 use Rattle.query_bind.proofs.querying.bind_reading.Goals as goal
 
 pub returns-clause-named : goal.returns-clause-named
-returns-clause-named c = λ rows_at db lists.
-    query_on c.listed_tables_are_known.ensures (λ bound. bound.reading) 64 rows_at (listed_in c.args.catalog.now) db lists [] c.args.query.now c.bind_query.result c.bind_query.ensures.named
-
-pub returns-clause-not_disk : goal.returns-clause-not_disk
-returns-clause-not_disk c =
-    refused_calm (λ bound. bound.reading) (resolve_query (columns_in 64 (listed_in c.args.catalog.now) []) [] c.args.query.now) c.bind_query.result
-    (of_listed_query 64 (listed_in c.args.catalog.now) [] c.args.query.now) c.bind_query.ensures.named
+returns-clause-named c = λ rows_at db lists. c.bind_reading_beside.ensures.named rows_at db tt lists

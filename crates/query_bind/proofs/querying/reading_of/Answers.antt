@@ -19,4 +19,4 @@ returns-clause-named c =
     let orders : c.deref-6.result.now ≡ map (λ (o : Term × Bool). (keyed c.args.parts.keys.items o.0, o.1)) c.args.parts.orders.items = search rules in
     let h = c.in_ok-check_parts.ensures results orders in
     let columns = c.from_vec-4.ensures ∙ (c.in_ok-columns.ensures ∙ ap (map (λ (r : Term × ScopeColumn). r.1)) c.deref-7.ensures.value) in
-    made c.args.query.now c.args.parts _ (search rules) refl (search rules) (search rules) (search rules) columns refl (search rules) refl (search rules) (search rules) h
+    made c.args.outer c.args.query.now c.args.parts _ (search rules) refl (search rules) (search rules) (search rules) columns refl (search rules) refl (search rules) (search rules) h

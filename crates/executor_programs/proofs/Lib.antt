@@ -1,0 +1,10 @@
+pub mod Around
+pub mod Beginning
+pub mod BesideQueries
+pub mod BesideRows
+pub mod ChosenRows
+pub mod Finishing
+pub mod LoadedEach
+pub mod QuietTerms
+pub mod SeenRows
+pub mod SetBeside

@@ -1,0 +1,39 @@
+use Rattle.std.proofs.Common.{refl, sym, ap, subst, ◌∙◌}
+use Rattle.sqlval.specs.Names.{folded}
+use Rattle.row_change.specs.RowChanges.{Event}
+use Rattle.trigger.specs.Binding.{aim_of}
+use Rattle.trigger.specs.Events.{event_of}
+use Rattle.trigger.specs.Triggers.{triggers_at}
+use Rattle.sql_syntax.specs.declared.create.TriggerTime.{TriggerTime}
+use Rattle.sql_syntax.specs.declared.create.TriggerTime.TheVariants.{After}
+use Rattle.trigger_names.specs.Programs.{HasRowsOf}
+use Rattle.executor_programs.specs.Acts.{time_before}
+use Rattle.catalog.specs.Database.{Name}
+use Rattle.executor_programs.proofs.Around.{firing_at, has_rows, or_memory, same_definitions}
+use Rattle.executor_programs.proofs.acts.act_around.Goals as goal
+
+pub returns-in_err-before : goal.returns-in_err-before
+returns-in_err-before c = λ rows_at db of. or_memory _ c.in_err-before.field-0.0 c.from_residual.result c.from_residual.ensures.1 (c.in_err-before.ensures.found rows_at db of)
+
+pub returns-in_err-after : goal.returns-in_err-after
+returns-in_err-after c = λ rows_at db of. or_memory _ c.in_err-after.field-0.0 c.from_residual-in_err-after.result c.from_residual-in_err-after.ensures.1 (c.in_err-after.ensures.found rows_at db of)
+
+pub returns-in_err-scope : goal.returns-in_err-scope
+returns-in_err-scope c = λ rows_at db of.
+    or_memory _ c.in_err-scope.field-0.0 c.from_residual-in_err-scope.result c.from_residual-in_err-scope.ensures.1
+    (c.in_err-scope.ensures.seen (firing_at (event_of c.event_in-event.result) c.args.source.now.columns c.args.source.now.has_rowid) refl refl
+    (has_rows (event_of c.event_in-event.result) c.args.source.now.columns c.args.source.now.has_rowid))
+
+pub returns : goal.returns
+returns c = λ rows_at db of columns rowid.
+    record {
+      scope = λ f row. c.in_ok-scope.ensures.seen f (row.columns ∙ sym columns) (row.has_rowid ∙ sym rowid) (subst (λ (e : Event). HasRowsOf e f) (sym c.event_in-event.ensures) row.has);
+      known = c.in_ok-scope.ensures.outer;
+      before = λ rows_at db of. same_definitions c.in_ok-before.before.items ∙ c.in_ok-before.ensures.found rows_at db of
+          ∙ ap (λ (t : TriggerTime). triggers_at t (event_of c.event_in-event.result) db (folded c.target_of-target.result.now)) c.first_time.ensures
+          ∙ ap (λ (e : Event). triggers_at (time_before c.args.is_table) e db (folded c.target_of-target.result.now)) c.event_in-event.ensures
+          ∙ ap (λ (n : Name). triggers_at (time_before c.args.is_table) (aim_of c.args.change.now).event db n) c.target_of-target.ensures;
+      after = λ rows_at db of. same_definitions c.in_ok-after.after.items ∙ c.in_ok-after.ensures.found rows_at db of
+          ∙ ap (λ (e : Event). triggers_at After e db (folded c.target_of-target.result.now)) c.event_in-event.ensures
+          ∙ ap (λ (n : Name). triggers_at After (aim_of c.args.change.now).event db n) c.target_of-target.ensures;
+    }

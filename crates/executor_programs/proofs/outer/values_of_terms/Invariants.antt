@@ -1,0 +1,10 @@
+-- what is left of the terms decides
+use Rattle.std.proofs.Common.{◌≡◌, drop}
+use Rattle.query_terms.specs.Rows.{seen}
+use Rattle.query_terms.specs.Values.{value}
+use Rattle.query_names.specs.Readings.{values}
+use Rattle.query_terms.proofs.InOrder.{left}
+use Rattle.executor_programs.proofs.outer.values_of_terms.Given as goal
+
+abbrev pub invariant-terms : goal.invariant-terms
+invariant-terms l = left (λ t. value t (seen l.env)) (drop l.term-index l.terms) l.row.items ≡ values (seen l.env) l.terms

@@ -1,0 +1,370 @@
+//! One row of a table: what its triggers see of it before and after, and the change itself.
+
+ghost use Rattle.std.specs.Prelude.{◌≡◌, ◌∷◌, [], map, option_map, Some, IfErr, IsTrue, List, ℕ};
+ghost use Rattle.std.specs.Cmp.Lexicographic.{pointwise};
+ghost use Rattle.sqlval.specs.Faults.{IsNotDiskFault, IsOrMemory};
+ghost use Rattle.sqlval.specs.Sameness as same;
+ghost use Rattle.sqlval.specs.declared.value.Value.{Value as Stored};
+ghost use Rattle.pages.specs.Calls.{Causes, Stays};
+ghost use Rattle.pages.specs.Map.{PageMap};
+ghost use Rattle.sql_syntax.specs.declared.change.Change.{Change as Text};
+ghost use Rattle.catalog.specs.Listed.{Listed, listed_in, own_column};
+ghost use Rattle.query_terms.specs.Values as meant_row;
+ghost use Rattle.row_change.specs.Constraints as stored;
+ghost use Rattle.row_change.specs.Inserting as inserting;
+ghost use Rattle.row_change.specs.NewRows.{row_of as pair_of};
+ghost use Rattle.row_change.specs.RowChanges.{Firing, same_row};
+ghost use Rattle.executor_programs.specs.Begun.{Begins, BeginsSet, ExpectsUnchanged, Finishes, IsBegunAt, Values, both_rows as rows_of_both, given_in, shown};
+ghost use Rattle.executor_programs.specs.declared.acts.Act.{Act as Doing};
+ghost use Rattle.executor_programs.specs.declared.acts.TableItem.{TableItem as Item};
+ghost use Rattle.executor_programs.specs.declared.acts.TableItem.TheVariants as work;
+ghost use Rattle.executor_programs.specs.declared.outer.OuterRows.{OuterRows as Outside};
+ghost use Rattle.executor_programs.specs.declared.rows.Begun.TheVariants as stage;
+
+use crate::acts::{Act, TableItem};
+use crate::outer::{OuterRows, only_row};
+use crate::values::{copies_of, defaults_of, put_given, values_set};
+use catalog::{Catalog, Table, TableRow, listed_tables_are_found};
+use executor::{insert_row, row_at, set_row, stored_values_stay, take_row};
+use pages::{Pages, WritePages};
+use query_terms::SourceRow;
+use row_change::stored_row;
+use sqlval::{Fault, Many, R, Row, Value};
+use std::alloc::Global;
+
+/// A row that is about to be changed.
+#[derive(Drop)]
+pub enum Begun {
+    /// NEW: its rowid, as far as it is given, and its values as the columns store them.
+    Insert(Value, Vec<Value>),
+    /// OLD, and NEW.
+    Update(TableRow, Value, Vec<Value>),
+    /// OLD.
+    Delete(TableRow),
+}
+
+/// The value of the rowid's own column, NULL where there is none. (`Memory` alone.)
+fn own_value(alloc: Global, table: &Table, values: &[Value]) -> R<Value>
+    ensures { IsOrMemory (λ value. value ≡ inserting.own_value (own_column table.now) values.now) result }
+{
+    match table.own_column() {
+        Some(place) if place < values.len() => Ok(values[place].copy(alloc)?),
+        _ => Ok(Value::Null),
+    }
+}
+
+/// What NEW shows of the rowid of a row that is updated, before it is settled. (`Memory` alone.)
+fn shown_rowid(alloc: Global, table: &Table, rowid: i64, values: &[Value]) -> R<Value>
+    ensures { IsOrMemory (λ value. value ≡ shown (own_column table.now) rowid values.now) result }
+{
+    match table.own_column() {
+        Some(_) => own_value(alloc, table, values),
+        None => Ok(Value::Int(rowid)),
+    }
+}
+
+/// A row of a table as a source's. (`Memory` alone.)
+fn source_row(alloc: Global, row: &TableRow) -> R<SourceRow>
+    ensures { IsOrMemory (λ made. made ≡ stored.row_of row.now.rowid row.now.values.items) result }
+{
+    let values = Many::from_vec(copies_of(alloc, &row.values)?);
+    Ok(SourceRow::made(Value::Int(row.rowid), values))
+}
+
+/// A row of an INSERT before its triggers run. (`RealRefused`, `Memory`.)
+fn begin_insert(alloc: Global, table: &Table, act: &Act, given: &Row) -> R<Option<Begun>>
+    ensures begun { (pages : PageMap) (size : ℕ) (l : Listed) (o : Outside) (c : Text) → Begins pages size l o c table.now act.now
+        (work.Insert given.now) result }
+    ensures not_disk { IfErr result (λ fault. IsNotDiskFault fault) }
+{
+    listed_tables_are_found();
+    let columns = table.columns.as_slice();
+    let mut values = defaults_of(alloc, columns)?;
+    put_given(alloc, &mut values, &act.places, given.as_slice())?;
+    let kept = stored_row(alloc, columns, &values)?;
+    let rowid = own_value(alloc, table, &kept)?;
+    Ok(Some(Begun::Insert(rowid, kept)))
+}
+
+/// A row of an UPDATE before its triggers run. (What SET's expressions refuse; `RealRefused`.)
+fn begin_set(
+    alloc: Global,
+    outer: OuterRows<'_>,
+    table: &Table,
+    act: &Act,
+    old: TableRow,
+) -> R<Option<Begun>>
+    ensures begun { BeginsSet outer.entry table.now act.now old result }
+    ensures not_disk { IfErr result (λ fault. IsNotDiskFault fault) }
+{
+    stored_values_stay();
+    let row = source_row(alloc, &old)?;
+    let values = values_set(alloc, outer, &act.sets, &row)?;
+    let kept = stored_row(alloc, table.columns.as_slice(), &values)?;
+    let rowid = shown_rowid(alloc, table, old.rowid, &kept)?;
+    Ok(Some(Begun::Update(old, rowid, kept)))
+}
+
+/// The row of a rowid before its triggers run, where it is there. (What `row_at` and `begin_set` refuse.)
+fn begin_update<P: Pages>(
+    alloc: Global,
+    pages: &mut P,
+    outer: OuterRows<'_>,
+    table: &Table,
+    act: &Act,
+    rowid: i64,
+) -> R<Option<Begun>>
+    ensures begun { (l : Listed) (c : Text) → IsTrue (P.Pages.tells (P.Pages.below pages.old))
+        → Begins (P.Pages.map pages.old) (P.Pages.limits (P.Pages.below pages.old)).page
+        l outer.entry c table.now act.now (work.Update rowid) result }
+    ensures stays { Stays P.Pages.below P.Pages.map P.Pages.count P.Pages.failures result pages.old pages.new }
+{
+    listed_tables_are_found();
+    match row_at(alloc, pages, table, rowid)? {
+        Some(old) => begin_set(alloc, outer, table, act, old),
+        None => Ok(None),
+    }
+}
+
+/// The same of a DELETE. (What `row_at` refuses.)
+fn begin_delete<P: Pages>(
+    alloc: Global,
+    pages: &mut P,
+    table: &Table,
+    rowid: i64,
+) -> R<Option<Begun>>
+    ensures begun { (l : Listed) (o : Outside) (c : Text) (act : Doing) → IsTrue (P.Pages.tells (P.Pages.below pages.old))
+        → Begins (P.Pages.map pages.old) (P.Pages.limits (P.Pages.below pages.old)).page
+        l o c table.now act (work.Delete rowid) result }
+    ensures stays { Stays P.Pages.below P.Pages.map P.Pages.count P.Pages.failures result pages.old pages.new }
+{
+    listed_tables_are_found();
+    match row_at(alloc, pages, table, rowid)? {
+        Some(old) => Ok(Some(Begun::Delete(old))),
+        None => Ok(None),
+    }
+}
+
+/// A row before its triggers run; nothing where it is gone. (What `begin_insert`, `begin_update` and `begin_delete` refuse.)
+pub fn begin<P: Pages>(
+    alloc: Global,
+    pages: &mut P,
+    catalog: &Catalog,
+    outer: OuterRows<'_>,
+    table: &Table,
+    act: &Act,
+    item: &TableItem,
+) -> R<Option<Begun>>
+    ensures begun { (c : Text) → IsTrue (P.Pages.tells (P.Pages.below pages.old))
+        → Begins (P.Pages.map pages.old) (P.Pages.limits (P.Pages.below pages.old)).page
+        (listed_in catalog.now) outer.entry c table.now act.now item.now result }
+    ensures stays { Stays P.Pages.below P.Pages.map P.Pages.count P.Pages.failures result pages.old pages.new }
+{
+    match item {
+        TableItem::Insert(given) => begin_insert(alloc, table, act, given),
+        TableItem::Update(rowid) => begin_update(alloc, pages, outer, table, act, *rowid),
+        TableItem::Delete(rowid) => begin_delete(alloc, pages, table, *rowid),
+    }
+}
+
+/// Lists of one row each, NEW before OLD. (`Memory` alone.)
+pub(crate) fn both_rows(
+    alloc: Global,
+    new: Option<SourceRow>,
+    old: Option<SourceRow>,
+) -> R<Vec<Many<SourceRow>>>
+    ensures { IsOrMemory (λ rows. rows.items ≡ rows_of_both new old) result }
+{
+    let mut rows = Vec::new(alloc);
+    if let Some(row) = new {
+        rows.push(only_row(alloc, row)?)?;
+    }
+    if let Some(row) = old {
+        rows.push(only_row(alloc, row)?)?;
+    }
+    Ok(rows)
+}
+
+/// NEW, before its rowid is settled. (`Memory` alone.)
+fn new_row(alloc: Global, rowid: &Value, values: &[Value]) -> R<SourceRow>
+    ensures { IsOrMemory (λ row. row ≡ record { rowid = rowid.now; values = values.now }) result }
+{
+    let values = Many::from_vec(copies_of(alloc, values)?);
+    Ok(SourceRow::made(rowid.copy(alloc)?, values))
+}
+
+/// NEW and OLD, as the triggers before the change see them. (`Memory` alone.)
+pub fn rows_before(alloc: Global, begun: &Begun) -> R<Vec<Many<SourceRow>>>
+    ensures { (f : Firing) → IsBegunAt begun.now f → IsOrMemory (λ rows. rows.items ≡ rows_of_both f.new f.old) result }
+{
+    match begun {
+        Begun::Insert(rowid, values) => {
+            both_rows(alloc, Some(new_row(alloc, rowid, values)?), None)
+        }
+        Begun::Update(old, rowid, values) => {
+            let new = new_row(alloc, rowid, values)?;
+            both_rows(alloc, Some(new), Some(source_row(alloc, old)?))
+        }
+        Begun::Delete(old) => both_rows(alloc, None, Some(source_row(alloc, old)?)),
+    }
+}
+
+/// Whether both are one value, by kind and bytes.
+fn same_value(left: &Value, right: &Value) -> bool
+    ensures { result ≡ same.is_same_value left.now right.now }
+{
+    match (left, right) {
+        (Value::Null, Value::Null) => true,
+        (Value::Int(number), Value::Int(other)) => *number == *other,
+        (Value::Text(text), Value::Text(other)) => {
+            text.as_str().as_bytes() == other.as_str().as_bytes()
+        }
+        (Value::Blob(bytes), Value::Blob(other)) => bytes.as_slice() == other.as_slice(),
+        _ => false,
+    }
+}
+
+/// Whether the values are the same, one after another.
+fn same_values(left: &[Value], right: &[Value]) -> bool
+    ensures { result ≡ pointwise same.is_same_value left.now right.now }
+{
+    let mut first = left;
+    let mut second = right;
+    'pairs: loop {
+        let Some((x, xs)) = first.split_first() else {
+            return second.is_empty();
+        };
+        let Some((y, ys)) = second.split_first() else {
+            return false;
+        };
+        if !same_value(x, y) {
+            return false;
+        }
+        first = xs;
+        second = ys;
+    }
+}
+
+/// Whether the row is there, with the values that it had.
+fn is_as_it_was(now: &Option<TableRow>, old: &TableRow) -> bool
+    ensures { result ≡ same_row (option_map (λ row. row.values.items) now.now) old.now.values.items }
+{
+    match now {
+        Some(now) => same_values(&now.values, &old.values),
+        None => false,
+    }
+}
+
+/// That the row is as it was before its triggers ran. (`RowChangedBefore`, and what `row_at` refuses.)
+fn expect_unchanged<P: Pages>(alloc: Global, pages: &mut P, table: &Table, old: &TableRow) -> R<()>
+    ensures expected { IsTrue (P.Pages.tells (P.Pages.below pages.old))
+        → ExpectsUnchanged (P.Pages.map pages.old) (P.Pages.limits (P.Pages.below pages.old)).page
+        table.now (pair_of old.now) result }
+    ensures stays { Stays P.Pages.below P.Pages.map P.Pages.count P.Pages.failures result pages.old pages.new }
+{
+    let now = row_at(alloc, pages, table, old.rowid)?;
+    if !is_as_it_was(&now, old) {
+        return Err(Fault::RowChangedBefore);
+    }
+    Ok(())
+}
+
+/// Inserts the row that is given. (What `insert_row` refuses.)
+fn finish_insert<P: WritePages>(
+    alloc: Global,
+    pages: &mut P,
+    table: &Table,
+    act: &Act,
+    given: &[Value],
+) -> R<Vec<Many<SourceRow>>>
+    ensures finished { (l : Listed) (c : Text) (i : Item) (rowid : Stored) (values : Values) → IsTrue (P.Pages.tells (P.Pages.below pages.old))
+        → given_in i ≡ given.now
+        → Finishes (P.Pages.map pages.old) (P.Pages.map pages.new) (P.Pages.limits (P.Pages.below pages.old)).page
+        l c table.now act.now i (stage.Insert rowid values) result }
+    ensures kept { P.Pages.below pages.new ≡ P.Pages.below pages.old }
+    ensures causes { Causes result (P.Pages.failures pages.old) (P.Pages.failures pages.new)
+        (P.Pages.count pages.new ≡ (P.Pages.limits (P.Pages.below pages.new)).most) }
+{
+    listed_tables_are_found();
+    let row = insert_row(alloc, pages, table, &act.by_column, given)?;
+    both_rows(alloc, Some(source_row(alloc, &row)?), None)
+}
+
+/// Gives the row the values that SET makes of it. (What `expect_unchanged` and `set_row` refuse.)
+fn finish_update<P: WritePages>(
+    alloc: Global,
+    pages: &mut P,
+    table: &Table,
+    old: &TableRow,
+    values: &[Value],
+) -> R<Vec<Many<SourceRow>>>
+    ensures finished { (l : Listed) (c : Text) (act : Doing) (i : Item) (rowid : Stored) (given : Values) → IsTrue (P.Pages.tells (P.Pages.below pages.old))
+        → given.items ≡ values.now
+        → Finishes (P.Pages.map pages.old) (P.Pages.map pages.new) (P.Pages.limits (P.Pages.below pages.old)).page
+        l c table.now act i (stage.Update old.now rowid given) result }
+    ensures kept { P.Pages.below pages.new ≡ P.Pages.below pages.old }
+    ensures causes { Causes result (P.Pages.failures pages.old) (P.Pages.failures pages.new)
+        (P.Pages.count pages.new ≡ (P.Pages.limits (P.Pages.below pages.new)).most) }
+{
+    listed_tables_are_found();
+    expect_unchanged(alloc, pages, table, old)?;
+    let row = set_row(alloc, pages, table, old.rowid, values)?;
+    let new = source_row(alloc, &row)?;
+    both_rows(alloc, Some(new), Some(source_row(alloc, old)?))
+}
+
+/// Takes the row out. (What `expect_unchanged` and `take_row` refuse.)
+fn finish_delete<P: WritePages>(
+    alloc: Global,
+    pages: &mut P,
+    table: &Table,
+    old: &TableRow,
+) -> R<Vec<Many<SourceRow>>>
+    ensures finished { (l : Listed) (c : Text) (act : Doing) (i : Item) → IsTrue (P.Pages.tells (P.Pages.below pages.old))
+        → Finishes (P.Pages.map pages.old) (P.Pages.map pages.new) (P.Pages.limits (P.Pages.below pages.old)).page
+        l c table.now act i (stage.Delete old.now) result }
+    ensures kept { P.Pages.below pages.new ≡ P.Pages.below pages.old }
+    ensures causes { Causes result (P.Pages.failures pages.old) (P.Pages.failures pages.new)
+        (P.Pages.count pages.new ≡ (P.Pages.limits (P.Pages.below pages.new)).most) }
+{
+    listed_tables_are_found();
+    expect_unchanged(alloc, pages, table, old)?;
+    take_row(alloc, pages, table, old.rowid)?;
+    both_rows(alloc, None, Some(source_row(alloc, old)?))
+}
+
+/// The values that an INSERT gives; none of another change.
+fn given_of(item: &TableItem) -> &[Value]
+    ensures { result.now ≡ given_in item.now }
+{
+    match item {
+        TableItem::Insert(given) => given.as_slice(),
+        _ => &[],
+    }
+}
+
+/// Makes the change of a row, and answers NEW and OLD as the triggers after it see them. (`RowChangedBefore`, and what `insert_row`, `set_row`
+/// and `take_row` refuse.)
+pub fn finish<P: WritePages>(
+    alloc: Global,
+    pages: &mut P,
+    catalog: &Catalog,
+    table: &Table,
+    act: &Act,
+    item: &TableItem,
+    begun: &Begun,
+) -> R<Vec<Many<SourceRow>>>
+    ensures finished { (c : Text) → IsTrue (P.Pages.tells (P.Pages.below pages.old))
+        → Finishes (P.Pages.map pages.old) (P.Pages.map pages.new)
+        (P.Pages.limits (P.Pages.below pages.old)).page
+        (listed_in catalog.now) c table.now act.now item.now begun.now result }
+    ensures kept { P.Pages.below pages.new ≡ P.Pages.below pages.old }
+    ensures causes { Causes result (P.Pages.failures pages.old) (P.Pages.failures pages.new)
+        (P.Pages.count pages.new ≡ (P.Pages.limits (P.Pages.below pages.new)).most) }
+{
+    match begun {
+        Begun::Insert(_, _) => finish_insert(alloc, pages, table, act, given_of(item)),
+        Begun::Update(old, _, values) => finish_update(alloc, pages, table, old, values),
+        Begun::Delete(old) => finish_delete(alloc, pages, table, old),
+    }
+}

@@ -1,0 +1,11 @@
+mod Tests
+mod Among
+mod Gathered
+mod Chosen
+mod Noting
+mod Scopes
+mod Chains
+mod Bodies
+mod Sources
+mod Queue
+mod Inherited

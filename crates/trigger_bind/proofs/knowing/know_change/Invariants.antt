@@ -1,0 +1,11 @@
+-- Programs are looked at one after another.
+use Rattle.catalog.specs.Listed.{listed_in}
+use Rattle.trigger_bind.specs.Needs.{cost}
+use Rattle.trigger_bind.proofs.Queue.{IsUnderWay}
+use Rattle.trigger_bind.proofs.knowing.know_change.Given as goal
+
+abbrev pub invariant-queue : goal.invariant-queue
+invariant-queue l = IsUnderWay (listed_in l.catalog) l.change l.needs
+
+abbrev pub decreases-queue : goal.decreases-queue
+decreases-queue l = cost l.needs

@@ -1,0 +1,4 @@
+pub mod Choosing
+pub mod Knowing
+pub mod Needs
+pub mod Programs

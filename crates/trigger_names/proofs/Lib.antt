@@ -1,0 +1,4 @@
+mod GivenRows
+mod NamedChanges
+mod SeenRows
+mod SetPairs
