@@ -119,13 +119,12 @@ def make(program):
     """Proves and compiles a program over its libraries, which are proved, and returns whether it could."""
     say(f"the program: {program.name}")
     os.makedirs(f"{program.folder}/out", exist_ok=True)
-    held = rt.rtlib.lock([program])
+    # (the kit lets go of what its crate holds before it runs the program)
+    program.held = rt.rtlib.lock([program])
     with open(f"{program.folder}/out/build.log", "w", errors="replace") as program.out:
         failed = program.run(["--jobs", str(os.cpu_count())], ["--help"])
     if failed:
         say(f"{program.name}: not built: see {program.out.name}")
-    for it in held:
-        os.close(it)
     return not failed
 
 

@@ -6,7 +6,7 @@ use Rattle.disk.specs.declared.device.Disk.{Ghosts}
 use Rattle.disk.proofs.Moments.{throughout_both}
 use Rattle.sql_syntax.specs.declared.statement.Statement.{Statement}
 use Rattle.catalog.specs.Database.{Database}
-use Rattle.session.specs.Supported.{StepSoFar}
+use Rattle.session.specs.TooLong.{StepOrTooLong}
 use Rattle.session.specs.Holding.{HoldThroughout, LeaveHeld}
 use Rattle.session.specs.Laws.{IsBeside}
 use Rattle.session.specs.Machine.{Machine, Reply, committed, last_place, newest}
@@ -29,7 +29,7 @@ record IsSound (m : Machine) : Type 0 where
   some : 1 ≤ length m.history
   sure : m.failed ≡ false → m.in_doubt ≡ None
 
-so_far_beside : (m : Machine) (c : ℕ) (s : Statement) (reply : Reply) (new : Machine) → StepSoFar m c s reply new → IsBeside m c new
+so_far_beside : (m : Machine) (c : ℕ) (s : Statement) (reply : Reply) (new : Machine) → StepOrTooLong m c s reply new → IsBeside m c new
 so_far_beside m c s reply new (inl step) = others_stay_beside m c s reply new step
 so_far_beside m c s reply new (inr h) = moved m new m c h.2 (beside_itself m c)
 
@@ -103,7 +103,7 @@ module _ {D : Type 0} {g : Ghosts D} where
   failed_of e m (inr shown) stopped = absurd (false≢true (sym shown.running ∙ stopped))
 
   abbrev TextStep : Engine D g → Machine → ℕ → List ℕ → Reply → Machine → Type 0
-  TextStep old m c text reply next = StepByText (λ before k s answer after. StepSoFar before k s answer after) grammar m c text reply next
+  TextStep old m c text reply next = StepByText (λ before k s answer after. StepOrTooLong before k s answer after) grammar m c text reply next
 
   step_beside : (old : Engine D g) (m : Machine) (c : ℕ) (text : List ℕ) (reply : Reply) (next : Machine) → TextStep old m c text reply next → IsBeside m c next
   step_beside old m c text reply next (inl h) = moved m next m c h.2 (beside_itself m c)

@@ -20,7 +20,7 @@ use Rattle.sql_parser.specs.StatementReading.{whole_from}
 use Rattle.sql_parser.specs.Refusals.{IsTextRefusal}
 use Rattle.sql_grammar.specs.Statements.{is_statement_within}
 use Rattle.sql_grammar.specs.Texts.{IsStatementText, IsUnsupportedText, pieces_of, sql_in}
-use Rattle.session.specs.Supported.{StepSoFar}
+use Rattle.session.specs.TooLong.{StepOrTooLong}
 use Rattle.session.specs.ConnectionState.{files_of, first_refusal}
 use Rattle.session.specs.Machine.{Machine, Reply, Refused}
 use Rattle.executor.specs.Forms.{KeepsItsText}
@@ -135,7 +135,7 @@ done = Ok tt
 
 module _ {D : Type 0} {g : Ghosts D} (e : Engine D g) (n : ℕ) (text : List ℕ) where
   abbrev Step : Machine → Reply → Machine → Type 0
-  Step m reply next = StepByText (λ before c s answer after. StepSoFar before c s answer after) grammar m n text reply next
+  Step m reply next = StepByText (λ before c s answer after. StepOrTooLong before c s answer after) grammar m n text reply next
 
   stays : (m : Machine) (f : Fault) → EngineRepresents e m → Step m (Refused (refusal_of f)) m → StepsByTextTo e m n text (Refused (refusal_of f)) e
   stays m f shows step = record { next = m; step = step; shown = shows; crash = as_shown e.connections m shows; copied = λ s is. refused_copies (others_in e.connections n) (files_in e) (files_in e) s (Refused (refusal_of f)) (refusal_of f) refl; renewed = λ more. not_longer m.history more }

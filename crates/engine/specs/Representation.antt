@@ -3,7 +3,7 @@ use Rattle.std.specs.Prelude.{ℕ, List}
 use Rattle.disk.specs.declared.device.Disk.{Ghosts}
 use Rattle.sql_grammar.specs.Texts.{IsStatementText}
 use Rattle.sql_syntax.specs.declared.statement.Statement.{Statement}
-use Rattle.session.specs.Supported.{StepSoFar}
+use Rattle.session.specs.TooLong.{StepOrTooLong}
 use Rattle.session.specs.Holding.{HoldThroughout}
 use Rattle.session.specs.ConnectionState.{files_of}
 use Rattle.session.specs.Machine.{Machine, Reply}
@@ -27,7 +27,7 @@ module _ {D : Type 0} {g : Ghosts D} where
   -- Where the text is a checkpoint, its frames are copied as the reply says; and a commit begins the log anew where it may.
   pub record StepsByTextTo (old : Engine D g) (m : Machine) (connection : ℕ) (text : List ℕ) (reply : Reply) (new : Engine D g) : Type 0 where
     pub next : Machine
-    pub step : StepByText (λ before c s answer after. StepSoFar before c s answer after) grammar m connection text reply next
+    pub step : StepByText (λ before c s answer after. StepOrTooLong before c s answer after) grammar m connection text reply next
     pub shown : EngineRepresents new next
     pub crash : HoldThroughout (MayShow m next) (files_in old) (files_in new)
     pub copied : (s : Statement) → IsStatementText text s → CopiesAnswered (others_in old.connections connection) (files_in old) s reply (files_in new)

@@ -1,6 +1,6 @@
 -- All rows of a table or view.
 use Rattle.std.proofs.Common.{◌≡◌, inl, inr, sym, ap, ◌∙◌, ℕ, List, map, Option, Some, None, Result, Ok, Err, arith}
-use Rattle.std.specs.Prelude.{MatchOption, MatchResult}
+use Rattle.std.specs.Prelude.{filter, option_map, MatchOption, MatchResult}
 use Rattle.sqlval.specs.Faults.{IsOutside}
 use Rattle.sqlval.specs.Refusals.{Answer, NoSuch, Refusal, refusal_of}
 use Rattle.sqlval.specs.declared.fault.Fault.{Fault}
@@ -12,12 +12,17 @@ use Rattle.catalog.specs.declared.tables.Table.{Table}
 use Rattle.catalog.specs.declared.tables.Trigger.{Trigger}
 use Rattle.catalog.specs.declared.tables.View.{View as ListedView}
 use Rattle.query_names.specs.Views.{all_rows, rows_of_object}
+use Rattle.query_bind.specs.Named.{place_seen}
+use Rattle.query_plan.specs.Searching.{is_found}
+use Rattle.query_plan.specs.declared.searching.Search.{Search}
 use Rattle.query_terms.specs.Values.{Row}
 use Rattle.row_scan.specs.Sources.{LoadsRows, as_source}
 use Rattle.row_scan.specs.Trees.{AnswersOrFails}
+use Rattle.row_search.specs.Found.{FindsSought}
 use Rattle.executor.specs.Reading.{ReadsView}
-use Rattle.executor.specs.Rows.{ReadsAll}
+use Rattle.executor.specs.Rows.{AreSought, FindsAmong, ReadsAll}
 use Rattle.executor.proofs.FoundTables.{table_found}
+use Rattle.executor.proofs.IndexTrees.{has_indexed}
 use Rattle.executor.proofs.Owners.{has_rows}
 
 abbrev good : List Row → Answer (List Row)
@@ -62,3 +67,14 @@ none_read finds pages size l name no_table no_view fault is db stored known =
     by_table : (t : Option Table) → t ≡ None → MatchOption t (IsNoTable l name (object db name)) (λ t. object db name ≡ Some (ATable (with_rows t (stored.rows_at t.root)))) → all_rows db name ≡ Err NoSuch
     by_table None none h = by_view (view_named name l.views) no_view h
     by_table (Some t) none h = absurd cc
+
+-- those of a table that a search finds
+pub rows_found : (pages : PageMap) (size : ℕ) (t : Table) (search : Search) (result : Result (List Row) Fault) → FindsSought pages size (record { root = t.root; shape = shape_of t }) t.indexes search result
+    → FindsAmong pages size t search result
+rows_found pages size t search result finds l db name stored named =
+    by result (finds (stored.rows_at t.root) (has_indexed pages size l db stored name (place_seen t) t (ap (option_map place_seen) named) named))
+  where
+    by : (r : Result (List Row) Fault) → MatchResult r (λ found. found ≡ filter (is_found t.indexes search) (map as_source (stored.rows_at t.root))) IsOutside
+        → MatchResult r (λ found. AreSought db name t search found) IsOutside
+    by (Ok found) same = record { all = map as_source (stored.rows_at t.root); read = ap (rows_of_object _) (table_found stored.rows_at l db name t stored.of_listed.lists named); are = same }
+    by (Err fault) outside = outside

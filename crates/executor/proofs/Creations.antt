@@ -170,14 +170,14 @@ module _ (laws : Laws) (old : PageMap) (size : ℕ) (l : Listed) (db : Database)
     -- its row isn't added
     pub refused_row : (f : Fault) → IsOutsideOrFull f ⊎ AreTooLong (schema_row (codes "table") d.name d.name root (Some sql)) f → IsChangeRefusal (creating sql d) db f
     refused_row f (inl full) = inl full
-    refused_row f (inr (what, long)) = inr (inr (inl (record {
+    refused_row f (inr (what, long)) = inr (inr (record {
       is = what;
       why = inr (record {
         made = made_of db d t;
         reaches = reached sql db held.rows_at l d t held.of_listed new_table;
         long = (root, inl long);
       });
-    })))
+    }))
 
     module _ (text : IsCreateOf sql (object.Table d)) (new : PageMap) (unused : is_among t.rowid (rowids_of l) ≡ false)
         (added : IsAdded mid new size (schema_row (codes "table") d.name d.name root (Some sql)) held.schema held.schema_used tree.now_free t.rowid) where
@@ -288,15 +288,15 @@ module _ (old : PageMap) (size : ℕ) (l : Listed) (db : Database) (held : Store
 
   pub refused_keys : (f : Fault) → IsKeyRefusal t f → IsChangeRefusal (creating sql d) db f
   refused_keys f (inl full) = inl full
-  refused_keys f (inr (inl (what, wide))) = inr (inr (inl (record { is = what; why = inl (sym (wide_keys d t new_table.makes.keys) ∙ wide) })))
-  refused_keys f (inr (inr (number, root, (what, long)))) = inr (inr (inl (record {
+  refused_keys f (inr (inl (what, wide))) = inr (inr (record { is = what; why = inl (sym (wide_keys d t new_table.makes.keys) ∙ wide) }))
+  refused_keys f (inr (inr (number, root, (what, long)))) = inr (inr (record {
     is = what;
     why = inr (record {
       made = made_of db d t;
       reaches = reached sql db held.rows_at l d t held.of_listed new_table;
       long = (root, inr (number, subst (λ (n : Name). AreStorable (schema_row (codes "index") (automatic_name n number) n root None) → ⊥) new_table.makes.name_is long));
     });
-  })))
+  }))
 
   pub creates : (after : Listed) → IsKeyed last size (more l t) (bare_made db d t) t (length t.keys) after → IsMade (creating sql d) db last size after
   creates after k = record {

@@ -57,7 +57,7 @@ words_at pages size l db held name t named =
 -- ---- the sources of a query
 
 module _ (pages : PageMap) (size : ℕ) (l : Listed) (db : Database) (stored : Stores pages size l db) where
-  has_indexed : (name : Name) (place : BoundSource) (t : Table) → option_map place_seen (table_named name l.tables) ≡ Some place → table_named name l.tables ≡ Some t
+  pub has_indexed : (name : Name) (place : BoundSource) (t : Table) → option_map place_seen (table_named name l.tables) ≡ Some place → table_named name l.tables ≡ Some t
       → HasIndexed pages size place t.indexes (stored.rows_at place.root)
   has_indexed name place t placed named =
       subst (λ (x : BoundSource). HasIndexed pages size x t.indexes (stored.rows_at x.root)) (same_Some (place_seen t) place (sym (ap (option_map place_seen) named) ∙ placed))

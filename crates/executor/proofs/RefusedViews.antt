@@ -179,10 +179,6 @@ module _ (db : Database) (d : Delete) where
 
 -- ---- what it comes to
 
--- a trigger waits for it
-pub sets_off : (c : Change) (db : Database) (f : Fault) → (refusal_of f ≡ Unsupported) × (is_quiet (aim_of c).event db (aim_of c).target ≡ false) → IsChangeRefusal (statement.Change c) db f
-sets_off c db f (is, some) = inr (inr (inr (record { is = is; change = c; change_is = refl; some = some })))
-
 both_are : (a b : Bool) → a && b ≡ true → (a ≡ true) × (b ≡ true)
 both_are true true h = (refl, refl)
 both_are true false h = absurd (false≢true h)

@@ -1,8 +1,8 @@
 -- What a statement's change makes of the pages that hold a database (SQL As Understood By SQLite, "CREATE TABLE", "CREATE INDEX", "INSERT").
-use Rattle.std.specs.Prelude.{◌≡◌, ◌⊎◌, codes, ℕ, true, false, List, length, Some, None, Result, MatchResult}
+use Rattle.std.specs.Prelude.{◌≡◌, ◌⊎◌, ⊤, codes, ℕ, true, List, length, Some, None, Result, MatchResult}
 use Rattle.std.specs.List.{list_any}
 use Rattle.sqlval.specs.Names.{folded}
-use Rattle.sqlval.specs.Refusals.{Unsupported, refusal_of}
+use Rattle.sqlval.specs.Refusals.{refusal_of}
 use Rattle.sqlval.specs.declared.fault.Fault.{Fault}
 use Rattle.sqlval.specs.declared.fault.Fault.TheVariants as fault
 use Rattle.sql_syntax.specs.declared.change.Change.{Change}
@@ -21,8 +21,7 @@ use Rattle.catalog.specs.declared.tables.Index.{Index}
 use Rattle.catalog.specs.declared.tables.Table.{Table}
 use Rattle.query_names.specs.Schema.{automatic_name}
 use Rattle.query_names.specs.Tables.{keys_of}
-use Rattle.row_change.specs.RowChanges.{is_quiet}
-use Rattle.trigger.specs.Binding.{aim_of}
+use Rattle.trigger.specs.Laws.{SetsOffNothing}
 use Rattle.db_write.specs.Changing.{is_wide}
 use Rattle.db_pages.specs.Schema.{schema_row}
 use Rattle.db_pages.specs.Stored.{Stores}
@@ -88,24 +87,17 @@ pub record IsTooMuch (s : Statement) (db : Database) (f : Fault) : Type 0 where
   pub is : f ≡ fault.TooLong
   pub why : MeetsWideIndex s db ⊎ MakesLongRow s db
 
--- the change could set a trigger off, which none does so far
-pub record SetsOff (s : Statement) (db : Database) (f : Fault) : Type 0 where
-  pub is : refusal_of f ≡ Unsupported
-  pub change : Change
-  pub change_is : s ≡ statement.Change change
-  pub some : is_quiet (aim_of change).event db (aim_of change).target ≡ false
-
--- it can't be done by this engine
-abbrev pub IsBeyond : Statement → Database → Fault → Type 0
-IsBeyond s db f = IsTooMuch s db f ⊎ SetsOff s db f
-
--- Why a statement makes nothing: out of memory or of pages, by a disk, as its work is refused, or because something is too long for a record
--- or a trigger would be set off.
+-- Why a statement makes nothing: out of memory or of pages, by a disk, as its work is refused, or because something is too long for a record.
 abbrev pub IsChangeRefusal : Statement → Database → Fault → Type 0
-IsChangeRefusal s db f = IsOutsideOrFull f ⊎ (RefusesWith (change_made s db) (refusal_of f) ⊎ IsBeyond s db f)
+IsChangeRefusal s db f = IsOutsideOrFull f ⊎ (RefusesWith (change_made s db) (refusal_of f) ⊎ IsTooMuch s db f)
 
 -- What a statement's change comes to, where the pages hold a database of which this is listed. `listed_by` says what is listed after a call
 -- that answered.
 abbrev pub MakesChange : {X : Type 0} → (X → Listed) → Statement → PageMap → PageMap → ℕ → Listed → Result X Fault → Type 0
 MakesChange listed_by s old new size before result = (db : Database) → Stores old size before db
     → MatchResult result (λ x. IsMade s db new size (listed_by x)) (IsChangeRefusal s db)
+
+-- what becomes of a database by a change of rows, where it sets no trigger off
+abbrev pub MakesQuietly : Change → PageMap → PageMap → ℕ → Listed → Result ⊤ Fault → Type 0
+MakesQuietly c old new size l result = (db : Database) → Stores old size l db → SetsOffNothing db c
+    → MatchResult result (λ done. IsMade (statement.Change c) db new size l) (IsChangeRefusal (statement.Change c) db)

@@ -6,4 +6,3 @@ pub mod Reading
 pub mod Refusing
 pub mod Rows
 pub mod Works
-pub mod Writes

@@ -34,7 +34,3 @@ KnowsGiven db count source result = IsKnownOr (resolve_given db no_outer (Some c
 -- those of an INSERT's list of columns; and how many values each row is to have
 abbrev pub KnowsPlaces : ScopeSource → Option (List Name) → Result ℕ Fault → Type 0
 KnowsPlaces source columns result = MatchResult result (λ count. (faults (insert_places source columns) ≡ []) × (wanted source columns ≡ Some count)) (IsFaultOf (faults (insert_places source columns)))
-
--- an event at the table or view of this name sets no trigger off; or it does, and is refused
-abbrev pub StaysStill : Event → Database → Name → Result ⊤ Fault → Type 0
-StaysStill event db name result = MatchResult result (λ done. is_quiet event db (folded name) ≡ true) (λ f. (refusal_of f ≡ Unsupported) × (is_quiet event db (folded name) ≡ false))

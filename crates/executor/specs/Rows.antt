@@ -1,6 +1,6 @@
 -- What becomes of one row of a database that pages store, where nothing is set off around it (SQL As Understood By SQLite, "INSERT", "UPDATE",
 -- "DELETE", "SELECT").
-use Rattle.std.specs.Prelude.{◌≡◌, ⊤, ℕ, suc, ℤ, List, [], ◌∷◌, Option, Some, Ok, zip, length, option_map, Result, MatchResult}
+use Rattle.std.specs.Prelude.{◌≡◌, ⊤, ℕ, suc, ℤ, List, [], ◌∷◌, Option, Some, Ok, filter, zip, length, option_map, Result, MatchResult}
 use Rattle.sqlval.specs.Faults.{IsOutside}
 use Rattle.sqlval.specs.Names.{folded}
 use Rattle.sqlval.specs.Refusals.{Answer, ◌then◌}
@@ -15,6 +15,8 @@ use Rattle.catalog.specs.declared.tables.Table.{Table}
 use Rattle.catalog.specs.declared.tables.TableRow as stored
 use Rattle.query_names.specs.Known.{IsKnownIn}
 use Rattle.query_names.specs.Views.{all_rows}
+use Rattle.query_plan.specs.Searching.{is_found}
+use Rattle.query_plan.specs.declared.searching.Search.{Search}
 use Rattle.query_terms.specs.Terms.{Const, Term}
 use Rattle.query_terms.specs.Values.{Row}
 use Rattle.row_scan.specs.Rows.{TableRow}
@@ -121,3 +123,14 @@ FindsIn pages size table rowid result = (l : Listed) (db : Database) (name : Nam
 abbrev pub ReadsAll : PageMap → ℕ → Listed → Name → Result (List Row) Fault → Type 0
 ReadsAll pages size l name result = (db : Database) → Stores pages size l db → IsKnownIn 64 db name
     → AnswersOrFails (λ rows. rows) (all_rows db name) result
+
+-- the rows of the table of this name in the database that a search finds
+pub record AreSought (db : Database) (name : Name) (table : Table) (search : Search) (found : List Row) : Type 0 where
+  pub all : List Row
+  pub read : all_rows db name ≡ Ok all
+  pub are : found ≡ filter (is_found table.indexes search) all
+
+-- These are the rows of a listed table that a search finds; or memory was short, or a disk's call failed.
+abbrev pub FindsAmong : PageMap → ℕ → Table → Search → Result (List Row) Fault → Type 0
+FindsAmong pages size table search result = (l : Listed) (db : Database) (name : Name) → Stores pages size l db → table_named name l.tables ≡ Some table
+    → MatchResult result (λ found. AreSought db name table search found) IsOutside

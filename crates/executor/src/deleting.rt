@@ -6,18 +6,17 @@ ghost use Rattle.sqlval.specs.Refusals as refusal;
 ghost use Rattle.sqlval.specs.Refusals.{refusal_of};
 ghost use Rattle.pages.specs.Calls.{Causes};
 ghost use Rattle.sql_syntax.specs.declared.change.Change.TheVariants as change;
-ghost use Rattle.sql_syntax.specs.declared.statement.Statement.TheVariants as statement;
 ghost use Rattle.catalog.specs.Listed.{listed_in, table_named, tables_of};
-ghost use Rattle.executor.specs.Changing.{MakesChange};
+ghost use Rattle.executor.specs.Changing.{MakesQuietly};
 
-use crate::refusing::{expect_still, is_view, refuse_delete};
+use crate::refusing::{is_view, refuse_delete};
 use catalog::{Catalog, Table, named_databases_are_one, other_rows_are_listed};
 use pages::WritePages;
 use query_bind::bind_where;
 use sql_syntax::Delete;
 use sqlval::{Fault, Name, Object, R};
 use std::alloc::Global;
-use trigger::{RowEvent, only_tables_set_nothing_off};
+use trigger::only_tables_set_nothing_off;
 
 /// The table of a name. (`NoSuch` if none has it.)
 pub(crate) fn listed_table<'a>(alloc: Global, catalog: &'a Catalog, name: &Name) -> R<&'a Table>
@@ -33,7 +32,7 @@ pub(crate) fn listed_table<'a>(alloc: Global, catalog: &'a Catalog, name: &Name)
     }
 }
 
-/// Removes the rows of a table for which WHERE is true, or all without one. (`NoSuch` and what else binding a DELETE refuses; what
+/// Removes the rows of a table for which WHERE is true, or all without one, by a DELETE that sets no trigger off. (`NoSuch` and what else binding a DELETE refuses; what
 /// `delete_rows` of `db_write` refuses; then some pages may have changed.)
 pub fn delete_rows<P: WritePages>(
     alloc: Global,
@@ -42,8 +41,7 @@ pub fn delete_rows<P: WritePages>(
     delete: &Delete,
 ) -> R<()>
     ensures made { IsTrue (P.Pages.tells (P.Pages.below pages.old))
-        → MakesChange (λ done. listed_in catalog.now) (statement.Change (change.Delete delete.now))
-        (P.Pages.map pages.old) (P.Pages.map pages.new)
+        → MakesQuietly (change.Delete delete.now) (P.Pages.map pages.old) (P.Pages.map pages.new)
         (P.Pages.limits (P.Pages.below pages.old)).page (listed_in catalog.now) result }
     ensures kept { P.Pages.below pages.new ≡ P.Pages.below pages.old }
     ensures causes { Causes result (P.Pages.failures pages.old) (P.Pages.failures pages.new)
@@ -52,7 +50,6 @@ pub fn delete_rows<P: WritePages>(
     other_rows_are_listed();
     named_databases_are_one();
     only_tables_set_nothing_off();
-    expect_still(catalog, &delete.table, RowEvent::Delete)?;
     if is_view(catalog, &delete.table) {
         return Err(refuse_delete(alloc, catalog, delete));
     }

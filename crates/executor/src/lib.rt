@@ -1,7 +1,6 @@
 //! A database over pages: what a query reads of it, and what a statement makes of it.
 #![tactic(auto)]
 
-mod changes;
 mod creating;
 mod deleting;
 mod dropping;
@@ -15,14 +14,14 @@ mod triggers;
 mod updating;
 mod views;
 
-pub use changes::{Write, change, write_of};
 pub use creating::{create_index, create_table};
 pub use deleting::delete_rows;
 pub use dropping::drop_object;
 pub use inserting::insert;
 pub use reading::read;
 pub use rows::{
-    all_rows, insert_row, places_by_column, row_at, set_row, stored_values_stay, take_row,
+    all_rows, insert_row, places_by_column, row_at, rows_sought, set_row, stored_values_stay,
+    take_row,
 };
 pub use triggers::create_trigger;
 pub use updating::update_rows;

@@ -1,4 +1,4 @@
-//! Changes that are refused: those that a trigger waits for, and those of views, once their names are looked up.
+//! Changes of views that no trigger waits for: they are refused, once their names are looked up.
 
 ghost use Rattle.std.specs.Prelude.{◌≡◌, ◌∷◌, [], Some, None, is_some, true, map, IfErr, MatchResult, List, ℕ, ℤ};
 ghost use Rattle.sqlval.specs.Faults.{IsNotDiskFault, IsOrMemory};
@@ -11,38 +11,25 @@ ghost use Rattle.catalog.specs.Listed.{Lists, listed_in, table_named, view_named
 ghost use Rattle.catalog.specs.Named.{IsOfListed};
 ghost use Rattle.query_names.specs.Named.{NamesBy};
 ghost use Rattle.query_bind.specs.Assigned.{columns_set};
-ghost use Rattle.trigger.specs.Events.{event_of};
 ghost use Rattle.trigger.specs.Laws.{SetsOffNothing};
 ghost use Rattle.executor.specs.Changing.{IsChangeRefusal};
-ghost use Rattle.executor.specs.Refusing.{KnowsChange, KnowsGiven, KnowsPlaces, StaysStill, is_view_named};
+ghost use Rattle.executor.specs.Refusing.{KnowsChange, KnowsGiven, KnowsPlaces, is_view_named};
 
 use crate::giving::{bind_rows, has_other_count};
 use catalog::{Catalog, listed_tables_are_found};
 use query_bind::{bind_filter, bind_places, bind_reading, bind_source, bind_values};
 use query_names::ScopeSource;
 use sql_syntax::{Assignment, Delete, Expr, Insert, InsertSource, Query, Update};
-use sqlval::{Fault, Feature, Many, Misuse, Name, R};
+use sqlval::{Fault, Many, Misuse, Name, R};
 use std::alloc::Global;
 use std::array::from_ref;
-use trigger::{RowEvent, is_still, only_tables_set_nothing_off, views_are_read_only};
+use trigger::{only_tables_set_nothing_off, views_are_read_only};
 
 /// Whether a name is that of a view.
 pub(crate) fn is_view(catalog: &Catalog, name: &Name) -> bool
     ensures { result ≡ is_view_named (listed_in catalog.now) name.now }
 {
     catalog.table(name.as_str()).is_none() && catalog.view(name.as_str()).is_some()
-}
-
-/// That an event at a table or view sets no trigger off. (`Unsupported` where it does.)
-pub(crate) fn expect_still(catalog: &Catalog, target: &Name, event: RowEvent<'_>) -> R<()>
-    ensures still { (rows_at : ℕ → List (ℤ × List Stored)) (db : Database) → IsOfListed rows_at (listed_in catalog.now) db
-        → StaysStill (event_of event.entry) db target.now result }
-    ensures not_disk { IfErr result IsNotDiskFault }
-{
-    if !is_still(catalog, target, event) {
-        return Err(Fault::Unsupported(Feature::StatementForm));
-    }
-    Ok(())
 }
 
 /// How many values each row of an INSERT must have, whose list of columns is looked up in its view. (What `bind_places` refuses.)

@@ -1,15 +1,16 @@
 //! One row of a stored database's table, without the triggers around it, and all rows of a table or view.
 
-ghost use Rattle.std.specs.Prelude.{◌≡◌, length, map, option_map, slice_get, slice_set, IsTrue, List, None, Some};
+ghost use Rattle.std.specs.Prelude.{◌≡◌, length, map, option_map, slice_get, slice_set, ℕ, IsTrue, List, None, Some};
 ghost use Rattle.sqlval.specs.Faults.{IsOrMemory};
 ghost use Rattle.sqlval.specs.declared.value.Value.{Value as Stored};
 ghost use Rattle.pages.specs.Calls.{Causes, Stays};
 ghost use Rattle.catalog.specs.Listed.{listed_in};
-ghost use Rattle.query_terms.specs.Terms.{Const};
+ghost use Rattle.query_plan.specs.Searching.{IsSought};
+ghost use Rattle.query_terms.specs.Terms.{Const, Term as Asked};
 ghost use Rattle.row_change.specs.Agreement.{IsSetFor};
 ghost use Rattle.row_change.specs.Meaning.{as_row};
 ghost use Rattle.row_change.specs.NewRows.{row_of};
-ghost use Rattle.executor.specs.Rows.{FindsIn, InsertsInto, ReadsAll, SetsIn, StoredStay, TakesFrom, literals};
+ghost use Rattle.executor.specs.Rows.{FindsAmong, FindsIn, InsertsInto, ReadsAll, SetsIn, StoredStay, TakesFrom, literals};
 
 use crate::reading::{MAX_VIEWS, view_rows};
 use catalog::{
@@ -18,9 +19,11 @@ use catalog::{
 };
 use pages::{Pages, WritePages};
 use query_names::BoundSource;
+use query_plan::Search;
 use query_terms::{Node, SourceRow, Term};
 use row_change::row_copy;
 use row_scan::source_rows;
+use row_search::found_rows;
 use sqlval::{Fault, Many, Name, Object, R, Value};
 use std::alloc::Global;
 
@@ -198,4 +201,23 @@ pub fn all_rows<P: Pages>(
         Some(view) => view_rows(alloc, pages, catalog, MAX_VIEWS, view),
         None => Err(Fault::NoSuch(Object::Table, name.copy(alloc)?)),
     }
+}
+
+/// The rows of a table that a search finds which some condition makes of it, by rising rowid. (`Memory`, `Io`.)
+pub fn rows_sought<P: Pages>(
+    alloc: Global,
+    pages: &mut P,
+    table: &Table,
+    search: Search,
+) -> R<Many<SourceRow>>
+    ensures found { (source : ℕ) (condition : Asked) → IsTrue (P.Pages.tells (P.Pages.below pages.old))
+        → IsSought table.now.indexes source condition search
+        → FindsAmong (P.Pages.map pages.old) (P.Pages.limits (P.Pages.below pages.old)).page table.now search result }
+    ensures stays { Stays P.Pages.below P.Pages.map P.Pages.count P.Pages.failures result pages.old pages.new }
+{
+    let source = BoundSource {
+        root: table.root,
+        shape: table.shape(),
+    };
+    found_rows(alloc, pages, source, table.indexes.as_slice(), search)
 }

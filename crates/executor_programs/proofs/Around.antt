@@ -7,7 +7,7 @@ use Rattle.catalog.specs.Database.{Name}
 use Rattle.catalog.specs.declared.tables.Trigger.{Trigger}
 use Rattle.trigger_bind.specs.Choosing.{named_definition}
 use Rattle.executor_programs.specs.Running.{definitions}
-use Rattle.std.specs.Prelude.{Result}
+use Rattle.std.specs.Prelude.{Result, IfErr}
 use Rattle.std.specs.Result.{IsErrAnd}
 use Rattle.sqlval.specs.Faults.{IsOrMemory}
 use Rattle.sqlval.specs.declared.fault.Fault.{Fault}
@@ -21,6 +21,10 @@ use Rattle.trigger_names.specs.Programs.{HasRowsOf, has_new, has_old}
 pub or_memory : {X : Type 0} (Is : X → Type 0) (f : Fault) (result : Result X Fault) → IsErrAnd result (λ e. e ≡ f) → f ≡ Memory → IsOrMemory Is result
 or_memory Is f (Ok x) same memory = absurd same
 or_memory Is f (Err e) same memory = same ∙ memory
+
+pub handed_memory : {X : Type 0} (f : Fault) (result : Result X Fault) → IsErrAnd result (λ e. e ≡ f) → f ≡ Memory → IfErr result (λ fault. fault ≡ Memory)
+handed_memory f (Ok x) same memory = tt
+handed_memory f (Err e) same memory = same ∙ memory
 
 abbrev row_if : Bool → Option Row
 row_if true = Some (record { rowid = Null; values = [] })

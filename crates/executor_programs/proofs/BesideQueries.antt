@@ -21,10 +21,10 @@ use Rattle.row_scan.specs.Trees.{AnswersOrFails}
 use Rattle.executor.specs.Reading.{IsRefusalOf}
 use Rattle.executor_programs.specs.Outer.{Shows, only}
 use Rattle.trigger.specs.Effects as meant
-use Rattle.trigger_names.specs.Resolved.{bound_given}
+use Rattle.trigger_names.specs.Resolved.{bound_given, gives_width}
 use Rattle.trigger_names.specs.declared.giving.BoundRows.{BoundRows}
 use Rattle.trigger_names.specs.declared.giving.BoundRows.TheVariants as rows
-use Rattle.executor_programs.specs.Querying.{AreKnownSources, AreLoaded, IsAfter, IsBeside, KnowsGiven, gives_width, rows_of_each}
+use Rattle.executor_programs.specs.Querying.{AreKnownSources, AreLoaded, IsAfter, IsBeside, KnowsGiven, rows_of_each}
 use Rattle.executor_programs.specs.declared.outer.OuterRows.{OuterRows}
 
 -- ---- its sources

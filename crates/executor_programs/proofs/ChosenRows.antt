@@ -129,7 +129,7 @@ as_meant db outer n c = by (all_rows db n)
     by (Ok rows) = ap (λ (each : List (Answer (List Row))). all_answers each then λ rs. Ok (flat_map (λ r. r) rs)) (each_as_meant outer c rows)
 
 module _ (db : Database) (outer : Outer) (n : Name) (c : Option Term) where
-  -- all rows are refused
+  -- all rows are refused, or they can't be read
   pub unread : {X : Type 0} (view : X → List Row) (result : Result X Fault) (f : Fault) → IsErrAnd result (λ e. e ≡ f) → AnswersOrFails {X = List Row} (λ rows. rows) (all_rows db n) (Err f)
       → AnswersOrFails view (meant.chosen_rows db outer n c) result
   unread view (Ok x) f same why = absurd same
@@ -139,9 +139,9 @@ module _ (db : Database) (outer : Outer) (n : Name) (c : Option Term) where
       by (inl outside) = inl outside
       by (inr refused) = inr (ap (λ (a : Answer (List Row)). a then λ rows. all_answers (map (chosen outer c) rows) then λ rs. Ok (flat_map (λ r. r) rs)) refused)
 
-  module _ (rows : List Row) (read : all_rows db n ≡ Ok rows) where
+  module _ (rows : List Row) (enough : rows_chosen outer.rows c rows ≡ (all_rows db n then rows_chosen outer.rows c)) where
     meant_is : meant.chosen_rows db outer n c ≡ rows_chosen outer.rows c rows
-    meant_is = sym (as_meant db outer n c) ∙ ap (λ (a : Answer (List Row)). a then rows_chosen outer.rows c) read
+    meant_is = sym (as_meant db outer n c) ∙ sym enough
 
     -- or the condition is
     pub unchosen : {X : Type 0} (view : X → List Row) (result : Result X Fault) (f : Fault) → IsErrAnd result (λ e. e ≡ f) → IsRefusedBy (rows_chosen outer.rows c rows) f

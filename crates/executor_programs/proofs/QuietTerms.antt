@@ -28,6 +28,10 @@ of_condition (Some t) rows = next (holds t rows) (λ test. Ok (unwrap_or test fa
 pub test_quietly : (c : Option Term) (rows : List Row) (f : Fault) → IsRefusedBy (is_true c rows) f → IsNotDiskFault f
 test_quietly c rows f why = quietly (is_true c rows) f (of_condition c rows) why
 
+pub condition_quietly : (c : Option Term) (rows : List Row) (result : Result Bool Fault) → AnswersBy (λ test. test) (is_true c rows) result → IfErr result (λ fault. IsNotDiskFault fault)
+condition_quietly c rows (Ok test) is = tt
+condition_quietly c rows (Err f) is = test_quietly c rows f is
+
 pub terms_quietly : (env : Environment) (terms : List Term) (f : Fault) → IsRefusedBy (values env terms) f → IsNotDiskFault f
 terms_quietly env terms f why = quietly (values env terms) f (of_values env terms) why
 

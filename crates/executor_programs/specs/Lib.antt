@@ -1,8 +1,11 @@
 pub mod Acts
 pub mod Begun
 pub mod Choosing
+pub mod Making
 pub mod Outer
 pub mod Querying
 pub mod Rows
 pub mod Running
+pub mod Seeking
 pub mod Seen
+pub mod Writes

@@ -48,8 +48,3 @@ LoadsEach db sources old new result = MatchResult result (λ done. AreLoaded db 
 abbrev pub KnowsGiven : Database → BoundRows → Type 0
 KnowsGiven db (rows.Rows terms) = ⊤
 KnowsGiven db (rows.Query reading) = AreKnownSources db reading.sources
-
--- each row that is given has so many values
-abbrev pub gives_width : ℕ → BoundRows → Bool
-gives_width count (rows.Rows terms) = list_all (λ row. length row == count) terms
-gives_width count (rows.Query reading) = length reading.results == count

@@ -1,8 +1,9 @@
 -- A row of a change, cut where its triggers stand (SQL As Understood By SQLite, "CREATE TRIGGER").
-use Rattle.std.specs.Prelude.{ℕ, ℤ, List, [], ◌∷◌, ◌++◌, map, zip, option_map, Option, Some, None, Ok}
+use Rattle.std.specs.Prelude.{false, ℕ, ℤ, List, [], ◌∷◌, ◌++◌, map, zip, option_map, Option, Some, None, Ok}
 use Rattle.sqlval.specs.Refusals.{Answer, ◌then◌}
 use Rattle.sqlval.specs.declared.value.Value.{Value}
 use Rattle.sql_syntax.specs.declared.change.Change.{Change}
+use Rattle.sql_syntax.specs.declared.create.TriggerTime.TheVariants.{InsteadOf}
 use Rattle.catalog.specs.Database as database
 use Rattle.catalog.specs.Database.{ATable, Database, Name, row, with_object, without_row}
 use Rattle.catalog.specs.Listed.{Listed}
@@ -14,7 +15,7 @@ use Rattle.query_terms.specs.Terms.{Term}
 use Rattle.query_terms.specs.Values.{Row}
 use Rattle.row_change.specs.Changes.{Outer}
 use Rattle.row_change.specs.Constraints.{default_values, given_rowid, new_rowid, row_of, set_values, shown_rowid, stored, table_of, updated_rowid, with_affinity, with_rowid}
-use Rattle.row_change.specs.RowChanges.{Deleting, Firing, Inserting, Updating, firing, unchanged}
+use Rattle.row_change.specs.RowChanges.{Deleting, Event, Fire, Firing, Inserting, Updating, delete_row, firing, insert_row, unchanged, update_row}
 use Rattle.trigger.specs.Binding.{aim_of}
 use Rattle.trigger.specs.Effects.{nulls, view_row}
 use Rattle.trigger_names.specs.Resolved.{names_set}
@@ -25,6 +26,12 @@ use Rattle.executor_programs.specs.declared.acts.ViewItem.{ViewItem}
 use Rattle.executor_programs.specs.declared.acts.ViewItem.TheVariants as seen
 
 -- ---- a row of a table
+
+-- what a change does to a row, with the triggers around it
+abbrev pub row_changed : Fire → Outer → Change → Act → TableItem → Database → Answer Database
+row_changed fire outer c act (item.Insert given) db = insert_row fire (aim_of c).target act.places.items db given.items
+row_changed fire outer c act (item.Update id) db = update_row fire outer (aim_of c).target act.sets.items (names_set c) db id
+row_changed fire outer c act (item.Delete id) db = delete_row fire (aim_of c).target db id
 
 -- what SET gives over a row, beside NEW and OLD
 abbrev pub set_beside : Outer → List (ℕ × Term) → Row → Answer (List Value)
@@ -83,3 +90,11 @@ abbrev pub rows_seen : Outer → List ScopeColumn → Act → ViewItem → Answe
 rows_seen outer cs act (seen.Insert given) = Ok (Some (view_row (set_values (nulls cs) (zip act.places.items given.items))), None)
 rows_seen outer cs act (seen.Update r) = set_beside outer act.sets.items r then λ vs. Ok (Some (view_row vs), Some r)
 rows_seen outer cs act (seen.Delete r) = Ok (None, Some r)
+
+-- the event at a row of a view
+abbrev pub firing_seen : Name → Event → List ScopeColumn → Option Row × Option Row → Firing
+firing_seen n event cs rows = record { target = n; event = event; columns = cs; has_rowid = false; new = rows.0; old = rows.1 }
+
+-- its triggers stand in the place of its change
+abbrev pub seen_changed : Fire → Outer → Change → List ScopeColumn → Act → ViewItem → Database → Answer Database
+seen_changed fire outer c cs act row db = rows_seen outer cs act row then λ rows. fire InsteadOf (firing_seen (aim_of c).target (aim_of c).event cs rows) db

@@ -1,26 +1,38 @@
-//! The rows that a change is about, and the triggers around each of them.
+//! A change whose names are looked up, with all rows that it is about and the triggers around each of them.
 
-ghost use Rattle.std.specs.Prelude.{◌≡◌, map, ℕ, ℤ, List};
+ghost use Rattle.std.specs.Prelude.{◌≡◌, ◌≤◌, length, map, true, ℕ, ℤ, IfErr, IfOk, IsTrue, List};
+ghost use Rattle.std.specs.Global.{Vec as Items};
 ghost use Rattle.sqlval.specs.Faults.{IsOrMemory};
+ghost use Rattle.pages.specs.Calls.{Stays};
 ghost use Rattle.sqlval.specs.declared.value.Value.{Value as Stored};
+ghost use Rattle.sql_syntax.specs.declared.change.Change as meant_change;
+ghost use Rattle.trigger_names.specs.declared.changes.BoundChange.TheVariants as bound_as;
 ghost use Rattle.catalog.specs.Database.{Database};
 ghost use Rattle.catalog.specs.Listed.{listed_in};
 ghost use Rattle.catalog.specs.Named.{IsOfListed};
+ghost use Rattle.query_terms.specs.Values as meant_row;
 ghost use Rattle.trigger.specs.Effects.{id_of};
-ghost use Rattle.executor_programs.specs.Acts.{ActsAround, time_before};
+ghost use Rattle.trigger_names.specs.Resolved.{GivesAsMany};
+ghost use Rattle.executor_programs.specs.Acts.{ActsAround, ChangesAs, IsTableAct, IsViewAct, WorksAs, time_before};
 ghost use Rattle.executor_programs.specs.declared.acts.TableItem.TheVariants as table_item;
 ghost use Rattle.executor_programs.specs.declared.acts.ViewItem.TheVariants as view_item;
 
-use catalog::{Catalog, Trigger};
-use query_names::ScopeSource;
+use crate::choosing::chosen_rows;
+use crate::outer::OuterRows;
+use crate::querying::given_rows;
+use catalog::{Catalog, Table, Trigger, listed_tables_are_found};
+use executor::places_by_column;
+use pages::Pages;
+use query_bind::bind_source;
+use query_names::{ScopeSource, listed_tables_are_known};
 use query_terms::{SourceRow, Term};
 use row_scan::Rows;
 use sql_syntax::{Change, TriggerTime};
-use sqlval::{R, Row};
+use sqlval::{Fault, R, Row};
 use std::alloc::Global;
 use std::rc::Rc;
 use trigger_bind::set_off;
-use trigger_names::{event_in, outer_scope, target_of};
+use trigger_names::{BoundChange, BoundRows, bind_change, event_in, outer_scope, target_of};
 
 /// What a change does at each of its rows, and the triggers around it.
 #[derive(Drop)]
@@ -54,6 +66,13 @@ pub enum ViewItem {
     Delete(SourceRow),
 }
 
+/// A change of a table's rows, or of those of a view of so many columns.
+#[derive(Drop)]
+pub enum Work<'a> {
+    Table(&'a Table, Act, Vec<TableItem>),
+    View(usize, Act, Vec<ViewItem>),
+}
+
 /// When the triggers run that run first.
 fn first_time(is_table: bool) -> TriggerTime
     ensures { result ≡ time_before is_table }
@@ -66,15 +85,16 @@ fn first_time(is_table: bool) -> TriggerTime
 }
 
 /// The triggers around each row, and what they see. (`Memory` alone.)
-pub fn act_around(
+fn act_around(
     alloc: Global,
     catalog: &Catalog,
     source: &ScopeSource,
     change: &Change,
     is_table: bool,
 ) -> R<Act>
-    ensures { (rows_at : ℕ → List (ℤ × List Stored)) (db : Database) → IsOfListed rows_at (listed_in catalog.now) db
+    ensures around { (rows_at : ℕ → List (ℤ × List Stored)) (db : Database) → IsOfListed rows_at (listed_in catalog.now) db
         → IsOrMemory (ActsAround (listed_in catalog.now) source.now change.now (time_before is_table)) result }
+    ensures refused { IfErr result (λ fault. fault ≡ Fault.Memory) }
 {
     let target = target_of(change);
     let event = event_in(change);
@@ -99,7 +119,7 @@ fn rowid_of(row: &SourceRow) -> i64
 }
 
 /// Rows of a table that are inserted. (`Memory` alone.)
-pub fn inserted_items(alloc: Global, rows: Rows) -> R<Vec<TableItem>>
+fn inserted_items(alloc: Global, rows: Rows) -> R<Vec<TableItem>>
     ensures { IsOrMemory (λ items. items.items ≡ map table_item.Insert rows.items) result }
 {
     let mut items = Vec::with_capacity(alloc, rows.len())?;
@@ -110,7 +130,7 @@ pub fn inserted_items(alloc: Global, rows: Rows) -> R<Vec<TableItem>>
 }
 
 /// Rows of a table that are updated. (`Memory` alone.)
-pub fn updated_items(alloc: Global, rows: &[SourceRow]) -> R<Vec<TableItem>>
+fn updated_items(alloc: Global, rows: &[SourceRow]) -> R<Vec<TableItem>>
     ensures { IsOrMemory (λ items. items.items ≡ map (λ r. table_item.Update (id_of r)) rows.now) result }
 {
     let mut items = Vec::with_capacity(alloc, rows.len())?;
@@ -121,7 +141,7 @@ pub fn updated_items(alloc: Global, rows: &[SourceRow]) -> R<Vec<TableItem>>
 }
 
 /// Rows of a table that are deleted. (`Memory` alone.)
-pub fn deleted_items(alloc: Global, rows: &[SourceRow]) -> R<Vec<TableItem>>
+fn deleted_items(alloc: Global, rows: &[SourceRow]) -> R<Vec<TableItem>>
     ensures { IsOrMemory (λ items. items.items ≡ map (λ r. table_item.Delete (id_of r)) rows.now) result }
 {
     let mut items = Vec::with_capacity(alloc, rows.len())?;
@@ -132,7 +152,7 @@ pub fn deleted_items(alloc: Global, rows: &[SourceRow]) -> R<Vec<TableItem>>
 }
 
 /// Rows that are inserted into a view. (`Memory` alone.)
-pub fn inserted_seen(alloc: Global, rows: Rows) -> R<Vec<ViewItem>>
+fn inserted_seen(alloc: Global, rows: Rows) -> R<Vec<ViewItem>>
     ensures { IsOrMemory (λ items. items.items ≡ map view_item.Insert rows.items) result }
 {
     let mut items = Vec::with_capacity(alloc, rows.len())?;
@@ -143,7 +163,7 @@ pub fn inserted_seen(alloc: Global, rows: Rows) -> R<Vec<ViewItem>>
 }
 
 /// Rows of a view that are updated. (`Memory` alone.)
-pub fn updated_seen(alloc: Global, rows: Vec<SourceRow>) -> R<Vec<ViewItem>>
+fn updated_seen(alloc: Global, rows: Vec<SourceRow>) -> R<Vec<ViewItem>>
     ensures { IsOrMemory (λ items. items.items ≡ map view_item.Update rows.items) result }
 {
     let mut items = Vec::with_capacity(alloc, rows.len())?;
@@ -154,7 +174,7 @@ pub fn updated_seen(alloc: Global, rows: Vec<SourceRow>) -> R<Vec<ViewItem>>
 }
 
 /// Rows of a view that are deleted. (`Memory` alone.)
-pub fn deleted_seen(alloc: Global, rows: Vec<SourceRow>) -> R<Vec<ViewItem>>
+fn deleted_seen(alloc: Global, rows: Vec<SourceRow>) -> R<Vec<ViewItem>>
     ensures { IsOrMemory (λ items. items.items ≡ map view_item.Delete rows.items) result }
 {
     let mut items = Vec::with_capacity(alloc, rows.len())?;
@@ -162,4 +182,255 @@ pub fn deleted_seen(alloc: Global, rows: Vec<SourceRow>) -> R<Vec<ViewItem>>
         items.push(ViewItem::Delete(row))?;
     }
     Ok(items)
+}
+
+/// An INSERT into a table. (What `given_rows` refuses.)
+fn insert_rows<'a, P: Pages>(
+    alloc: Global,
+    pages: &mut P,
+    catalog: &Catalog,
+    outer: OuterRows<'_>,
+    places: Vec<usize>,
+    rows: BoundRows,
+    table: &'a Table,
+    act: Act,
+) -> R<Work<'a>>
+    ensures found { (c : meant_change.Change) → IsTrue (P.Pages.tells (P.Pages.below pages.old))
+        → IsTableAct (listed_in catalog.now) c table.now act
+        → GivesAsMany (bound_as.Insert places rows) → WorksAs (P.Pages.map pages.old) (P.Pages.limits (P.Pages.below pages.old)).page
+        (listed_in catalog.now) outer.entry c (bound_as.Insert places rows) result }
+    ensures stays { Stays P.Pages.below P.Pages.map P.Pages.count P.Pages.failures result pages.old pages.new }
+{
+    listed_tables_are_found();
+    let mut act = act;
+    act.by_column = places_by_column(alloc, table, &places)?;
+    act.places = places;
+    let found = given_rows(alloc, pages, catalog, outer, rows)?;
+    let items = inserted_items(alloc, found)?;
+    Ok(Work::Table(table, act, items))
+}
+
+/// An UPDATE of a table's rows. (What `chosen_rows` refuses.)
+fn update_rows<'a, P: Pages>(
+    alloc: Global,
+    pages: &mut P,
+    catalog: &Catalog,
+    outer: OuterRows<'_>,
+    change: &Change,
+    sets: Vec<(usize, Term)>,
+    condition: Option<Term>,
+    table: &'a Table,
+    act: Act,
+) -> R<Work<'a>>
+    ensures found { IsTrue (P.Pages.tells (P.Pages.below pages.old))
+        → IsTableAct (listed_in catalog.now) change.now table.now act
+        → WorksAs (P.Pages.map pages.old) (P.Pages.limits (P.Pages.below pages.old)).page
+        (listed_in catalog.now) outer.entry change.now (bound_as.Update sets condition) result }
+    ensures stays { Stays P.Pages.below P.Pages.map P.Pages.count P.Pages.failures result pages.old pages.new }
+{
+    listed_tables_are_found();
+    let mut act = act;
+    act.sets = sets;
+    let name = target_of(change);
+    let found = chosen_rows(alloc, pages, catalog, name, outer, &condition)?;
+    let items = updated_items(alloc, &found)?;
+    Ok(Work::Table(table, act, items))
+}
+
+/// A DELETE of a table's rows. (What `chosen_rows` refuses.)
+fn delete_rows<'a, P: Pages>(
+    alloc: Global,
+    pages: &mut P,
+    catalog: &Catalog,
+    outer: OuterRows<'_>,
+    change: &Change,
+    condition: Option<Term>,
+    table: &'a Table,
+    act: Act,
+) -> R<Work<'a>>
+    ensures found { IsTrue (P.Pages.tells (P.Pages.below pages.old))
+        → IsTableAct (listed_in catalog.now) change.now table.now act
+        → WorksAs (P.Pages.map pages.old) (P.Pages.limits (P.Pages.below pages.old)).page
+        (listed_in catalog.now) outer.entry change.now (bound_as.Delete condition) result }
+    ensures stays { Stays P.Pages.below P.Pages.map P.Pages.count P.Pages.failures result pages.old pages.new }
+{
+    listed_tables_are_found();
+    let name = target_of(change);
+    let found = chosen_rows(alloc, pages, catalog, name, outer, &condition)?;
+    let items = deleted_items(alloc, &found)?;
+    Ok(Work::Table(table, act, items))
+}
+
+/// A change of a table's rows. (What `given_rows` and `chosen_rows` refuse.)
+fn table_work<'a, P: Pages>(
+    alloc: Global,
+    pages: &mut P,
+    catalog: &Catalog,
+    outer: OuterRows<'_>,
+    change: &Change,
+    bound: BoundChange,
+    table: &'a Table,
+    act: Act,
+) -> R<Work<'a>>
+    ensures found { IsTrue (P.Pages.tells (P.Pages.below pages.old))
+        → IsTableAct (listed_in catalog.now) change.now table.now act
+        → GivesAsMany bound → WorksAs (P.Pages.map pages.old) (P.Pages.limits (P.Pages.below pages.old)).page
+        (listed_in catalog.now) outer.entry change.now bound result }
+    ensures stays { Stays P.Pages.below P.Pages.map P.Pages.count P.Pages.failures result pages.old pages.new }
+{
+    match bound {
+        BoundChange::Insert(places, rows) => {
+            insert_rows(alloc, pages, catalog, outer, places, rows, table, act)
+        }
+        BoundChange::Update(sets, condition) => update_rows(
+            alloc, pages, catalog, outer, change, sets, condition, table, act,
+        ),
+        BoundChange::Delete(condition) => {
+            delete_rows(alloc, pages, catalog, outer, change, condition, table, act)
+        }
+    }
+}
+
+/// An INSERT into a view. (What `given_rows` refuses.)
+fn insert_seen<'a, P: Pages>(
+    alloc: Global,
+    pages: &mut P,
+    catalog: &Catalog,
+    outer: OuterRows<'_>,
+    places: Vec<usize>,
+    rows: BoundRows,
+    width: usize,
+    act: Act,
+) -> R<Work<'a>>
+    ensures found { (c : meant_change.Change) → IsTrue (P.Pages.tells (P.Pages.below pages.old))
+        → IsViewAct (listed_in catalog.now) c width act
+        → 1 ≤ length act.before.items → WorksAs (P.Pages.map pages.old) (P.Pages.limits (P.Pages.below pages.old)).page
+        (listed_in catalog.now) outer.entry c (bound_as.Insert places rows) result }
+    ensures stays { Stays P.Pages.below P.Pages.map P.Pages.count P.Pages.failures result pages.old pages.new }
+{
+    listed_tables_are_found();
+    listed_tables_are_known();
+    let mut act = act;
+    act.places = places;
+    let found = given_rows(alloc, pages, catalog, outer, rows)?;
+    let items = inserted_seen(alloc, found)?;
+    Ok(Work::View(width, act, items))
+}
+
+/// An UPDATE of a view's rows. (What `chosen_rows` refuses.)
+fn update_seen<'a, P: Pages>(
+    alloc: Global,
+    pages: &mut P,
+    catalog: &Catalog,
+    outer: OuterRows<'_>,
+    change: &Change,
+    sets: Vec<(usize, Term)>,
+    condition: Option<Term>,
+    width: usize,
+    act: Act,
+) -> R<Work<'a>>
+    ensures found { IsTrue (P.Pages.tells (P.Pages.below pages.old))
+        → IsViewAct (listed_in catalog.now) change.now width act
+        → 1 ≤ length act.before.items → WorksAs (P.Pages.map pages.old) (P.Pages.limits (P.Pages.below pages.old)).page
+        (listed_in catalog.now) outer.entry change.now (bound_as.Update sets condition) result }
+    ensures stays { Stays P.Pages.below P.Pages.map P.Pages.count P.Pages.failures result pages.old pages.new }
+{
+    listed_tables_are_found();
+    listed_tables_are_known();
+    let mut act = act;
+    act.sets = sets;
+    let name = target_of(change);
+    let found = chosen_rows(alloc, pages, catalog, name, outer, &condition)?;
+    let items = updated_seen(alloc, found)?;
+    Ok(Work::View(width, act, items))
+}
+
+/// A DELETE of a view's rows. (What `chosen_rows` refuses.)
+fn delete_seen<'a, P: Pages>(
+    alloc: Global,
+    pages: &mut P,
+    catalog: &Catalog,
+    outer: OuterRows<'_>,
+    change: &Change,
+    condition: Option<Term>,
+    width: usize,
+    act: Act,
+) -> R<Work<'a>>
+    ensures found { IsTrue (P.Pages.tells (P.Pages.below pages.old))
+        → IsViewAct (listed_in catalog.now) change.now width act
+        → 1 ≤ length act.before.items → WorksAs (P.Pages.map pages.old) (P.Pages.limits (P.Pages.below pages.old)).page
+        (listed_in catalog.now) outer.entry change.now (bound_as.Delete condition) result }
+    ensures stays { Stays P.Pages.below P.Pages.map P.Pages.count P.Pages.failures result pages.old pages.new }
+{
+    listed_tables_are_found();
+    listed_tables_are_known();
+    let name = target_of(change);
+    let found = chosen_rows(alloc, pages, catalog, name, outer, &condition)?;
+    let items = deleted_seen(alloc, found)?;
+    Ok(Work::View(width, act, items))
+}
+
+/// A change of a view's rows. (What `given_rows` and `chosen_rows` refuse; `ViewReadOnly` where no trigger stands in the change's place.)
+fn view_work<'a, P: Pages>(
+    alloc: Global,
+    pages: &mut P,
+    catalog: &Catalog,
+    outer: OuterRows<'_>,
+    change: &Change,
+    bound: BoundChange,
+    width: usize,
+    act: Act,
+) -> R<Work<'a>>
+    ensures found { IsTrue (P.Pages.tells (P.Pages.below pages.old))
+        → IsViewAct (listed_in catalog.now) change.now width act
+        → WorksAs (P.Pages.map pages.old) (P.Pages.limits (P.Pages.below pages.old)).page
+        (listed_in catalog.now) outer.entry change.now bound result }
+    ensures stays { Stays P.Pages.below P.Pages.map P.Pages.count P.Pages.failures result pages.old pages.new }
+{
+    listed_tables_are_found();
+    listed_tables_are_known();
+    if act.before.is_empty() {
+        return Err(Fault::ViewReadOnly);
+    }
+    match bound {
+        BoundChange::Insert(places, rows) => {
+            insert_seen(alloc, pages, catalog, outer, places, rows, width, act)
+        }
+        BoundChange::Update(sets, condition) => update_seen(
+            alloc, pages, catalog, outer, change, sets, condition, width, act,
+        ),
+        BoundChange::Delete(condition) => {
+            delete_seen(alloc, pages, catalog, outer, change, condition, width, act)
+        }
+    }
+}
+
+/// Looks up the names of a change beside NEW and OLD, and finds all rows that it is about. (What `bind_change`, `table_work` and `view_work`
+/// refuse.)
+pub(crate) fn work_of<'a, P: Pages>(
+    alloc: Global,
+    pages: &mut P,
+    catalog: &'a Catalog,
+    outer: OuterRows<'_>,
+    change: &Change,
+) -> R<Work<'a>>
+    ensures found { IsTrue (P.Pages.tells (P.Pages.below pages.old))
+        → ChangesAs (P.Pages.map pages.old) (P.Pages.limits (P.Pages.below pages.old)).page
+        (listed_in catalog.now) outer.entry change.now result }
+    ensures stays { Stays P.Pages.below P.Pages.map P.Pages.count P.Pages.failures result pages.old pages.new }
+{
+    listed_tables_are_found();
+    listed_tables_are_known();
+    let name = target_of(change);
+    let source = bind_source(alloc, catalog, name)?;
+    let table = catalog.table(name.as_str());
+    let act = act_around(alloc, catalog, &source, change, table.is_some())?;
+    let bound = bind_change(alloc, catalog, outer.scope, change)?;
+    match table {
+        Some(table) => table_work(alloc, pages, catalog, outer, change, bound, table, act),
+        None => {
+            let width = source.columns.len();
+            view_work(alloc, pages, catalog, outer, change, bound, width, act)
+        }
+    }
 }

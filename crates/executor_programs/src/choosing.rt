@@ -17,8 +17,8 @@ ghost use Rattle.executor_programs.specs.Choosing.{rows_chosen};
 ghost use Rattle.executor_programs.specs.Outer.{Shows, is_true as condition_is_true, only};
 
 use crate::outer::{OuterRows, first_places, is_true, row_copy, with_source};
+use crate::seeking::rows_to_ask;
 use catalog::Catalog;
-use executor::all_rows;
 use pages::Pages;
 use query_terms::{SourceRow, Term};
 use sqlval::{Fault, Many, Name, R, Value};
@@ -97,7 +97,7 @@ fn copies_at(alloc: Global, rows: &[SourceRow], places: &[usize]) -> R<Vec<Sourc
     Ok(copies)
 }
 
-/// The rows of a table or a view for which a condition is true beside NEW and OLD, in order. (What `all_rows` and the condition refuse.)
+/// The rows of a table or a view for which a condition is true beside NEW and OLD, in order. (What `rows_to_ask` and the condition refuse.)
 pub fn chosen_rows<P: Pages>(
     alloc: Global,
     pages: &mut P,
@@ -112,7 +112,7 @@ pub fn chosen_rows<P: Pages>(
         → AnswersOrFails (λ rows. rows.items) (meant.chosen_rows db seen name.now condition.now) result }
     ensures stays { Stays P.Pages.below P.Pages.map P.Pages.count P.Pages.failures result pages.old pages.new }
 {
-    let rows = all_rows(alloc, pages, catalog, name)?;
+    let rows = rows_to_ask(alloc, pages, catalog, name, outer, condition)?;
     let count = rows.len();
     let sources = with_source(alloc, outer.rows, rows)?;
     let places = chosen_places(alloc, &sources, outer.rows.len(), count, condition)?;

@@ -1,20 +1,15 @@
-//! The rows that a change of a stored database is about, beside NEW and OLD of a trigger's program, and each row's change between its triggers.
+//! What a statement makes of a database over pages, with the triggers that it sets off.
 #![tactic(auto)]
 
 mod acts;
+mod changes;
 mod choosing;
 mod outer;
 mod querying;
 mod rows;
+mod running;
+mod seeking;
 mod seen;
 mod values;
 
-pub use acts::{
-    Act, TableItem, ViewItem, act_around, deleted_items, deleted_seen, inserted_items,
-    inserted_seen, updated_items, updated_seen,
-};
-pub use choosing::chosen_rows;
-pub use outer::{OuterRows, is_true_beside};
-pub use querying::{given_rows, queried_rows};
-pub use rows::{Begun, begin, finish, rows_before};
-pub use seen::rows_seen;
+pub use changes::{Write, change, change_rows, write_of};

@@ -152,8 +152,9 @@ pub(crate) fn is_true(
 
 /// Whether a condition is true beside NEW and OLD, or there is none. (What `holds` refuses.)
 pub fn is_true_beside(alloc: Global, outer: OuterRows<'_>, condition: &Option<Term>) -> R<bool>
-    ensures { (seen : Outer) → Shows outer.entry seen
+    ensures answered { (seen : Outer) → Shows outer.entry seen
         → AnswersBy (λ test. test) (meant.is_true condition.now seen.rows) result }
+    ensures not_disk { IfErr result (λ fault. IsNotDiskFault fault) }
 {
     let picked = first_places(alloc, outer.rows.len())?;
     is_true(alloc, condition, outer.rows, &picked)

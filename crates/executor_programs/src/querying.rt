@@ -13,10 +13,10 @@ ghost use Rattle.row_scan.specs.Rows.{values_of};
 ghost use Rattle.row_scan.specs.Trees.{AnswersOrFails};
 ghost use Rattle.row_change.specs.Changes.{Outer};
 ghost use Rattle.trigger.specs.Effects as meant;
-ghost use Rattle.trigger_names.specs.Resolved.{bound_given};
+ghost use Rattle.trigger_names.specs.Resolved.{bound_given, gives_width};
 ghost use Rattle.db_pages.specs.Stored.{Stores};
 ghost use Rattle.executor_programs.specs.Outer.{Shows};
-ghost use Rattle.executor_programs.specs.Querying.{AreKnownSources, IsAfter, IsBeside, KnowsGiven, LoadsEach, gives_width};
+ghost use Rattle.executor_programs.specs.Querying.{AreKnownSources, IsAfter, IsBeside, KnowsGiven, LoadsEach};
 
 use crate::outer::{OuterRows, outer_copies, written_rows};
 use catalog::Catalog;

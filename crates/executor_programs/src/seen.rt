@@ -1,7 +1,7 @@
 //! One row of a view: what the triggers see that stand in the place of its change.
 
-ghost use Rattle.std.specs.Prelude.{◌≡◌, length, replicate, zip, List, Some, None};
-ghost use Rattle.sqlval.specs.Faults.{IsOrMemory};
+ghost use Rattle.std.specs.Prelude.{◌≡◌, length, replicate, zip, IfErr, List, Some, None};
+ghost use Rattle.sqlval.specs.Faults.{IsNotDiskFault, IsOrMemory};
 ghost use Rattle.sqlval.specs.declared.value.Value.TheVariants.{Null};
 ghost use Rattle.query_terms.specs.Outcome.{AnswersBy};
 ghost use Rattle.query_names.specs.declared.scope.ScopeColumn.{ScopeColumn};
@@ -10,7 +10,7 @@ ghost use Rattle.row_change.specs.Constraints.{set_values};
 ghost use Rattle.trigger.specs.Effects.{view_row};
 ghost use Rattle.executor_programs.specs.Begun.{SeesRows, both_rows as rows_of_both};
 ghost use Rattle.executor_programs.specs.Outer.{Shows};
-ghost use Rattle.executor_programs.specs.Seen.{updated};
+ghost use Rattle.executor_programs.specs.Seen as meant;
 
 use crate::acts::{Act, ViewItem};
 use crate::outer::{OuterRows, row_copy};
@@ -38,8 +38,9 @@ fn updated_row(
     act: &Act,
     row: &SourceRow,
 ) -> R<Vec<Many<SourceRow>>>
-    ensures { (seen : Outer) → Shows outer.entry seen → AnswersBy (λ rows. rows.items)
-        (updated seen act.now.sets.items row.now) result }
+    ensures updated { (seen : Outer) → Shows outer.entry seen → AnswersBy (λ rows. rows.items)
+        (meant.updated seen act.now.sets.items row.now) result }
+    ensures not_disk { IfErr result (λ fault. IsNotDiskFault fault) }
 {
     let values = values_set(alloc, outer, &act.sets, row)?;
     let new = SourceRow::made(Value::Null, Many::from_vec(values));
@@ -54,8 +55,9 @@ pub fn rows_seen(
     act: &Act,
     item: &ViewItem,
 ) -> R<Vec<Many<SourceRow>>>
-    ensures { (seen : Outer) (columns : List ScopeColumn) → Shows outer.entry seen → length columns ≡ width
+    ensures shown { (seen : Outer) (columns : List ScopeColumn) → Shows outer.entry seen → length columns ≡ width
         → SeesRows seen columns act.now item.now result }
+    ensures not_disk { IfErr result (λ fault. IsNotDiskFault fault) }
 {
     match item {
         ViewItem::Insert(given) => inserted_row(alloc, width, act, given),

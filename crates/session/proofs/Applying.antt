@@ -7,15 +7,15 @@ use Rattle.sqlval.specs.declared.fault.Fault.{Fault}
 use Rattle.sqlval.specs.declared.fault.Fault.TheVariants as fault
 use Rattle.sql_syntax.specs.declared.statement.Statement.{Statement}
 use Rattle.catalog.specs.Database.{Database}
-use Rattle.executor.specs.Changing.{IsBeyond}
-use Rattle.session.specs.Supported.{CannotMake, StepSoFar, database_of}
+use Rattle.executor_programs.specs.Making.{IsBeyond}
+use Rattle.session.specs.TooLong.{CannotStore, StepOrTooLong, database_of}
 use Rattle.session.specs.Machine.{Machine, Connection, Idle, InTransactionOf, Phase, SavepointState, Writes, Rows, Refused, connection, another, is_writing, last_place, newest, with_connection}
 use Rattle.session.specs.Outcomes.{Outcome, RefusedBy, answered, left_by, outcome, unless_busy, worked, worked_alone, write_outcome}
 use Rattle.executor.specs.Works.{Work, Makes, IsRefused, Binds, Reaches, RefusesWith, change_made}
 use Rattle.session.specs.Steps.{Allowed, Instead, is_connection}
-use Rattle.executor.specs.Writes.{written}
-use Rattle.executor.specs.declared.changes.Write.{Write}
-use Rattle.executor.specs.declared.changes.Write.TheVariants as write
+use Rattle.executor_programs.specs.Writes.{written}
+use Rattle.executor_programs.specs.declared.changes.Write.{Write}
+use Rattle.executor_programs.specs.declared.changes.Write.TheVariants as write
 use Rattle.session.proofs.ReadingPhases.{IsNewestPhase}
 use Rattle.session.proofs.Answered.{IsPlain}
 use Rattle.session.proofs.EndedSteps.{plain_step}
@@ -88,23 +88,23 @@ IsErrorCause Unstored w f = IsOutsideOrFull f ⊎ (RefusesWith w (refusal_of f) 
 module _ (m : Machine) (n : ℕ) (s : Statement) (running : m.failed ≡ false) (numbered : is_connection n ≡ true) (finish : Work → Outcome) (ends : IsFinish m n finish) (w : Work) (is : outcome m n s ≡ finish w) where
   -- the fault's refusal, as it is answered, and what it leaves
   abbrev Answers : Refusal → Type 0
-  Answers r = StepSoFar m n s (Refused (answered r)) (left_by m n r)
+  Answers r = StepOrTooLong m n s (Refused (answered r)) (left_by m n r)
 
   step_for : (e f : Fault) → f ≡ e → Answers (refusal_of e) → Answers (refusal_of f)
   step_for e f same step = subst (λ (x : Fault). Answers (refusal_of x)) (sym same) step
 
   -- what can't be made ends no transaction
-  cannot_make : (db : Database) → database_of m (connection m n) ≡ db → (f : Fault) → CannotMake s db (refusal_of f) → IsPlain (refusal_of f) → Answers (refusal_of f)
-  cannot_make db sees f unmade plain = plain_step m m n n s (refusal_of f) plain (inr (refusal_of f, refl, refl, running, subst (λ (d : Database). CannotMake s d (refusal_of f)) (sym sees) unmade))
+  cannot_make : (db : Database) → database_of m (connection m n) ≡ db → (f : Fault) → CannotStore s db (refusal_of f) → IsPlain (refusal_of f) → Answers (refusal_of f)
+  cannot_make db sees f unmade plain = plain_step m m n n s (refusal_of f) plain (inr (refusal_of f, refl, refl, running, subst (λ (d : Database). CannotStore s d (refusal_of f)) (sym sees) unmade))
 
-  unmade_plain : (db : Database) (r : Refusal) → CannotMake s db r → IsPlain r
+  unmade_plain : (db : Database) (r : Refusal) → CannotStore s db r → IsPlain r
   unmade_plain db r made = subst IsPlain (sym made.1) (by_fault made.0 made.2)
     where
       by_fault : (f : Fault) → IsBeyond s db f → IsPlain (refusal_of f)
       by_fault f (inl much) = subst (λ (x : Fault). IsPlain (refusal_of x)) (sym much.is) (record { answer = refl; left = λ m c. refl })
-      by_fault f (inr off) = subst IsPlain (sym off.is) (record { answer = refl; left = λ m c. refl })
+      by_fault f (inr wide) = subst (λ (x : Fault). IsPlain (refusal_of x)) (sym wide.is) (record { answer = refl; left = λ m c. refl })
 
-  pub refused_step : (db : Database) → database_of m (connection m n) ≡ db → (f : Fault) → IsErrorCause (CannotMake s db) w f → Answers (refusal_of f)
+  pub refused_step : (db : Database) → database_of m (connection m n) ≡ db → (f : Fault) → IsErrorCause (CannotStore s db) w f → Answers (refusal_of f)
   refused_step db sees f (inl (inl (inl memory))) = step_for fault.Memory f memory (instead m n s running numbered (finish w) (Refused refusal.Memory) is (inl refl, refl))
   refused_step db sees f (inl (inl (inr io))) = step_for fault.Io f io (instead m n s running numbered (finish w) (Refused refusal.Io) is (ends.io w))
   refused_step db sees f (inl (inr full)) = step_for fault.Full f full (instead m n s running numbered (finish w) (Refused refusal.Full) is (inl refl, refl))
@@ -115,9 +115,7 @@ module _ (m : Machine) (n : ℕ) (s : Statement) (running : m.failed ≡ false) 
 
 pub write_outcome_of : (w : Write) (m : Machine) (n : ℕ) (k : Connection) → connection m n ≡ k → outcome m n (written w) ≡ write_outcome m n (change_made (written w)) k
 unfolding outcome
-write_outcome_of (write.Insert i) m n k is = ap (write_outcome m n (change_made (written (write.Insert i)))) is
-write_outcome_of (write.Delete d) m n k is = ap (write_outcome m n (change_made (written (write.Delete d)))) is
-write_outcome_of (write.Update u) m n k is = ap (write_outcome m n (change_made (written (write.Update u)))) is
+write_outcome_of (write.Change c) m n k is = ap (write_outcome m n (change_made (written (write.Change c)))) is
 write_outcome_of (write.Drop kind name) m n k is = ap (write_outcome m n (change_made (written (write.Drop kind name)))) is
 write_outcome_of (write.CreateTable sql d) m n k is = ap (write_outcome m n (change_made (written (write.CreateTable sql d)))) is
 write_outcome_of (write.CreateIndex sql d) m n k is = ap (write_outcome m n (change_made (written (write.CreateIndex sql d)))) is

@@ -21,7 +21,7 @@ use Rattle.pager.specs.Views.{ViewHas, IsViewPage, View, newest_view, view_at, v
 use Rattle.pager.specs.Writers.{IsBegun, seen, snapshot_of}
 use Rattle.pager.specs.declared.writer.Writer.{Writer}
 use Rattle.session.specs.Endings.{as_answered, once_answered}
-use Rattle.session.specs.Supported.{StepSoFar}
+use Rattle.session.specs.TooLong.{StepOrTooLong}
 use Rattle.session.specs.ConnectionState.{files_of}
 use Rattle.session.specs.Machine.{Machine, Connection, Idle, Rows, Refused, Writes, another, is_writing, last_place, newest, with_connection}
 use Rattle.session.specs.Outcomes.{Gives, RefusedBy, begun, outcome}
@@ -162,10 +162,10 @@ module _ {D : Type 0} {g : Ghosts D} where
       outcome_is : outcome m old.connection (statement.Begin begins.Immediate) ≡ Gives [] (with_connection m old.connection (begun_as begins.Immediate m))
       outcome_is = free_outcome old m shown idle may
 
-      by_why : (f ≡ fault.Memory) ⊎ (f ≡ fault.Io) → StepSoFar m old.connection (statement.Begin begins.Immediate) (as_answered (Refused (refusal_of f))) (once_answered m new.connection (Refused (refusal_of f)))
-      by_why (inl memory) = subst (λ (e : Fault). StepSoFar m old.connection (statement.Begin begins.Immediate) (as_answered (Refused (refusal_of e))) (once_answered m new.connection (Refused (refusal_of e)))) (sym memory)
+      by_why : (f ≡ fault.Memory) ⊎ (f ≡ fault.Io) → StepOrTooLong m old.connection (statement.Begin begins.Immediate) (as_answered (Refused (refusal_of f))) (once_answered m new.connection (Refused (refusal_of f)))
+      by_why (inl memory) = subst (λ (e : Fault). StepOrTooLong m old.connection (statement.Begin begins.Immediate) (as_answered (Refused (refusal_of e))) (once_answered m new.connection (Refused (refusal_of e)))) (sym memory)
           (instead m old.connection (statement.Begin begins.Immediate) shown.running shown.numbered _ (Refused refusal.Memory) outcome_is (inl refl, refl))
-      by_why (inr io) = subst (λ (e : Fault). StepSoFar m old.connection (statement.Begin begins.Immediate) (as_answered (Refused (refusal_of e))) (once_answered m new.connection (Refused (refusal_of e)))) (sym io)
+      by_why (inr io) = subst (λ (e : Fault). StepOrTooLong m old.connection (statement.Begin begins.Immediate) (as_answered (Refused (refusal_of e))) (once_answered m new.connection (Refused (refusal_of e)))) (sym io)
           (instead m old.connection (statement.Begin begins.Immediate) shown.running shown.numbered _ (Refused refusal.Io) outcome_is (inr (refl, refl), refl))
 
 pub done_refused : (result : Result ⊤ Fault) (f : Fault) → IsErrAnd result (λ e. e ≡ f) → done_reply result ≡ Refused (refusal_of f)

@@ -25,7 +25,8 @@ use Rattle.pager.specs.Marks.{Changes, IsOverTheSame, now_of}
 use Rattle.pager.proofs.Sounding.{sound_alike, sound_from, sound_to}
 use Rattle.pager.proofs.WriterSights.{map_told}
 use Rattle.executor.specs.Changing as pages
-use Rattle.executor.specs.Writes.{listed_then}
+use Rattle.executor_programs.specs.Making as making
+use Rattle.executor_programs.specs.Writes.{listed_then}
 use Rattle.db_pages.specs.Stored.{Stores}
 use Rattle.session.specs.Changing.{CanChange, ChangesPages, Listing, MakesCatalog, listing}
 use Rattle.session.specs.Representation.{ShowTheSame}
@@ -131,7 +132,7 @@ module _ {D : Type 0} {g : Ghosts D} where
     -- what a change of the pages comes to
     pub changed : (s : Statement) (catalog next : SavedCatalogs) (db : Database) (r : Result ⊤ Fault) → CanChange (listing old catalog) w db
         → committed_in next ≡ committed_in catalog → savepoints_in next ≡ savepoints_in catalog
-        → pages.MakesChange (λ done. current_in next) s (map_over (under_reader old (snapshot_of w) a b) w) (map_over (under_reader new (snapshot_of v) c d) v) (page_size_of w) (current_in catalog) r
+        → making.CarriesOut (λ done. current_in next) s (map_over (under_reader old (snapshot_of w) a b) w) (map_over (under_reader new (snapshot_of v) c d) v) (page_size_of w) (current_in catalog) r
         → OnErr r (current_in next ≡ current_in catalog)
         → ChangesPages s (listing old catalog) w db r (listing new next) v
     changed s catalog next db (Ok done) on keeps points makes refused =
@@ -153,7 +154,7 @@ module _ {D : Type 0} {g : Ghosts D} where
 
     -- the same of a call on the current catalog that answers another, or none where the tables stay
     pub changed_to : (s : Statement) (catalog : SavedCatalogs) (db : Database) (tables : Listed) (r : Result (Option Catalog) Fault) → CanChange (listing old catalog) w db → tables ≡ current_in catalog
-        → pages.MakesChange (listed_then tables) s (map_over (under_reader old (snapshot_of w) a b) w) (map_over (under_reader new (snapshot_of v) c d) v) (page_size_of w) tables r
+        → making.CarriesOut (listed_then tables) s (map_over (under_reader old (snapshot_of w) a b) w) (map_over (under_reader new (snapshot_of v) c d) v) (page_size_of w) tables r
         → MakesCatalog s (listing old catalog) w db r new v
     changed_to s catalog db tables (Ok None) on same makes =
         changed s catalog catalog db (Ok tt) on refl refl

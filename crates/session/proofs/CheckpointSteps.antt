@@ -44,7 +44,7 @@ use Rattle.session.specs.declared.transactions.Connections.{Connections}
 use Rattle.session.proofs.Committing.{same_files}
 use Rattle.session.proofs.Copied.{HasHeaderAt, IsSight, KeepsSights, alone_parked, alone_transaction, header_shown, least_sight, may_copy, moved_parked, newest_now, newest_same, settled_now, throughout_shown}
 use Rattle.session.proofs.SameViews.{same_shown}
-use Rattle.session.specs.Supported.{StepSoFar}
+use Rattle.session.specs.TooLong.{StepOrTooLong}
 use Rattle.session.proofs.Settled.{as_shown, held_end, not_longer, settled_leaves, weaker}
 use Rattle.session.proofs.Showing.{busy_first, idle_first, still_shown}
 use Rattle.session.proofs.Stepping.{by_outcome, checkpoint_outcome, instead}
@@ -321,7 +321,7 @@ module _ {D : Type 0} {g : Ghosts D} where
 
   -- a step of a commit, with what follows it
   pub then_steps : (old mid new : Connections D g) (m next : Machine) (s : Statement) → Follows mid new next → HoldThroughout (MayShow m next) (files_of old) (files_of mid) → BeginsAnewBeside old new
-      → StepSoFar m old.connection s (Rows []) next → StepSoFar m old.connection s (Rows []) (fails next) → StepsTo old m s (Rows []) new
+      → StepOrTooLong m old.connection s (Rows []) next → StepOrTooLong m old.connection s (Rows []) (fails next) → StepsTo old m s (Rows []) new
   then_steps old mid new m next s follows before renewed step failed_step = by_shown follows.shown
     where
       crash : HoldThroughout (MayShow m next) (files_of old) (files_of new)

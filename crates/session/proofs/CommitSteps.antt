@@ -18,7 +18,7 @@ use Rattle.wal.specs.LogState.{seen_by, state_of}
 use Rattle.wal.specs.declared.log.Log.{Log}
 use Rattle.pager.specs.Views.{Tells, View, newest_view, view_at, view_of}
 use Rattle.pager.specs.declared.writer.Writer.{Writer}
-use Rattle.session.specs.Supported.{StepSoFar}
+use Rattle.session.specs.TooLong.{StepOrTooLong}
 use Rattle.session.specs.Holding.{IsSettled}
 use Rattle.session.specs.ConnectionState.{files_of}
 use Rattle.session.specs.Machine.{Machine, Connection, Idle, InTransactionOf, Reply, Rows, Refused, Writes, another, connection, is_writing, last_place, newest, with_connection}
@@ -188,7 +188,7 @@ module _ {D : Type 0} {g : Ghosts D} where
     commits_it : outcome m old.connection s ≡ Commits false in_writing.on.db
     commits_it = commits m in_writing.shown ∙ commit_outcome_of m old.connection (in_transaction old.catalog in_writing.on.points (Writes (last_place m) in_writing.on.db)) (in_writing.shown.is ∙ in_writing.on.is)
 
-    step_to : (reply : Reply) (next : Machine) → Allowed m old.connection (Commits false in_writing.on.db) reply next → StepSoFar m old.connection s reply next
+    step_to : (reply : Reply) (next : Machine) → Allowed m old.connection (Commits false in_writing.on.db) reply next → StepOrTooLong m old.connection s reply next
     step_to reply next allowed = by_outcome m old.connection s in_writing.shown.running in_writing.shown.numbered (Commits false in_writing.on.db) reply next commits_it allowed
 
     -- no other connection writes

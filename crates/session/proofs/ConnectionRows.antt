@@ -2,9 +2,7 @@
 use Rattle.std.specs.Prelude.{◌≡◌, Bool, true, false, refl, ℕ, zero, suc, pos, codes, None, Some, Err, List, [], ◌∷◌, ◌++◌}
 use Rattle.std.proofs.Common.{inl, inr, arith, sym, subst, ◌⊎◌}
 use mathlib.Core.Bool.{true≢false}
-use Rattle.sqlval.specs.Refusals.{Busy, Exists, StaleSnapshot, NoTransaction, NoSavepoint, InTransaction, Misuse, NoSuch, Raised, RaisedRollback, TooLong, Unique, Unsupported}
-use Rattle.sqlval.specs.declared.fault.Fault.TheVariants as fault
-use Rattle.sqlval.specs.declared.fault.Feature.TheVariants as feature
+use Rattle.sqlval.specs.Refusals.{Busy, Exists, StaleSnapshot, NoTransaction, NoSavepoint, InTransaction, Misuse, NoSuch, Raised, RaisedRollback, TooLong, Unique}
 use Rattle.sqlval.specs.declared.value.Value.{Value}
 use Rattle.sql_syntax.specs.Tree.{Binary, Raise}
 use Rattle.sql_syntax.specs.declared.create.NewObject.TheVariants as new
@@ -23,7 +21,6 @@ use Rattle.query_names.specs.Checked.{Meant}
 use Rattle.query_names.proofs.Written.{number, named, named_of, select, result, delete, column_with, col, table, int, insert}
 use Rattle.trigger.specs.Binding.{IsFault}
 use Rattle.trigger.proofs.BindingRows.{no_faults_behind}
-use Rattle.session.specs.Supported.{StepSoFar}
 use Rattle.session.specs.Machine.{InTransactionOf, Machine, NoSnapshot, Reply, Rows, Refused, fresh, with_connection}
 use Rattle.session.specs.Outcomes.{given, outcome}
 use Rattle.session.specs.Steps.{Step, Allowed, after_commit}
@@ -159,10 +156,6 @@ pub inserted : Step (fresh one) 1 (add 1) (Rows []) (after_commit (fresh one) 1 
 unfolding outcome
 inserted = inr (inr (refl, refl, inl (inr (no_faults_behind one (insert t (number 1 ∷ [])) refl refl, (refl, inl refl)))))
 
--- so it is while triggers are set off by no statement
-pub inserted_so_far : StepSoFar (fresh one) 1 (add 1) (Rows []) (after_commit (fresh one) 1 (with_object one t (table (col a ∷ []) ((pos 1, i 1) ∷ []))))
-inserted_so_far = inl inserted
-
 -- g AFTER DELETE ON t WHEN OLD.a = 99: DELETE FROM nosuch. DELETE FROM t, where t has no row
 abbrev with_g : Database
 with_g = with_object one (codes "g") (ATrigger (record { name = codes "g"; time = After; event = Delete; target = t; condition = Some (Binary op.Equal (named_of (codes "OLD") a) (number 99)); body = program.Change (delete (codes "nosuch") None) ∷ [] }))
@@ -172,10 +165,7 @@ pub trigger_refused : (r : Reply) (m : Machine) → r ≡ Refused NoSuch → m �
 unfolding outcome
 trigger_refused r m h k = inr (inr (refl, refl, inl (inl (NoSuch, (1, (0, omega arith, refl)), h, k))))
 
--- while no statement sets a trigger off, it may also be refused as such
-pub trigger_not_set_off : StepSoFar (fresh with_g) 1 (statement.Change (delete t None)) (Refused Unsupported) (fresh with_g)
-trigger_not_set_off = inr (Unsupported, refl, refl, refl, (fault.Unsupported feature.StatementForm, refl, inr (record { is = refl; change = delete t None; change_is = refl; some = refl })))
-
+-- and not that it has done so
 pub trigger_not_served : (rows : List (List Value)) (m : Machine) → Step (fresh with_g) 1 (statement.Change (delete t None)) (Rows rows) m → ⊥
 unfolding outcome
 trigger_not_served rows m (inl h) = absurd (true≢false (sym h.0))

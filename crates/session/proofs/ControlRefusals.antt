@@ -9,12 +9,12 @@ use Rattle.sql_syntax.specs.declared.statement.BeginMode.TheVariants as begins
 use Rattle.sql_syntax.specs.declared.statement.Statement.{Statement}
 use Rattle.sql_syntax.specs.declared.statement.Statement.TheVariants as statement
 use Rattle.catalog.specs.Database.{Database}
-use Rattle.executor.specs.Changing.{IsBeyond}
+use Rattle.executor_programs.specs.Making.{IsBeyond}
 use Rattle.executor.specs.Works.{Sort, Controlling, sort}
 use Rattle.session.specs.Machine.{Machine, Connection, Idle, InTransactionOf, Phase, NoSnapshot, Reads, Writes, SavepointState, Reply, Rows, Refused, another, connection, is_writing}
 use Rattle.session.specs.Outcomes.{Outcome, Gives, RefusedBy, Commits, Copies, Bound, answered, begun, commit_outcome, control, from_name, outcome, released, restored, saved, sorted_outcome, unless_busy}
 use Rattle.session.specs.Steps.{Allowed, Instead}
-use Rattle.session.specs.Supported.{CannotMake, StepSoFar, database_of}
+use Rattle.session.specs.TooLong.{CannotStore, StepOrTooLong, database_of}
 use Rattle.session.proofs.Answered.{answer_raises, is_raise}
 
 -- it is refused for one reason at most, and not by RAISE
@@ -100,14 +100,14 @@ instead_never : (m : Machine) (o : Outcome) (t : List ℕ) (new : Machine) → I
 instead_never m o t new (inl free, same) = false≢true free
 instead_never m o t new (inr io, same) = false≢true (sym (ap is_raise io.0))
 
-made_never : (s : Statement) (db : Database) (t : List ℕ) (r : Refusal) → Refused (Raised t) ≡ Refused r → CannotMake s db r → ⊥
+made_never : (s : Statement) (db : Database) (t : List ℕ) (r : Refusal) → Refused (Raised t) ≡ Refused r → CannotStore s db r → ⊥
 made_never s db t r is made = false≢true (sym (ap is_raise made.1 ∙ by_fault made.0 made.2) ∙ sym (ap raise_of is))
   where
     by_fault : (f : Fault) → IsBeyond s db f → is_raise (refusal_of f) ≡ false
     by_fault f (inl much) = ap (λ (x : Fault). is_raise (refusal_of x)) much.is
-    by_fault f (inr off) = ap is_raise off.is
+    by_fault f (inr wide) = ap (λ (x : Fault). is_raise (refusal_of x)) wide.is
 
-pub control_never_raises : (m : Machine) (c : ℕ) (s : Statement) (t : List ℕ) (new : Machine) → sort s ≡ Controlling → StepSoFar m c s (Refused (Raised t)) new → ⊥
+pub control_never_raises : (m : Machine) (c : ℕ) (s : Statement) (t : List ℕ) (new : Machine) → sort s ≡ Controlling → StepOrTooLong m c s (Refused (Raised t)) new → ⊥
 control_never_raises m c s t new is (inl (inl h)) = false≢true (sym (ap raise_of h.1))
 control_never_raises m c s t new is (inl (inr (inl h))) = false≢true (sym (ap raise_of h.2))
 control_never_raises m c s t new is (inl (inr (inr (running, numbered, inl h)))) = allowed_never m c (outcome m c s) t new (control_outcome m c s is) h

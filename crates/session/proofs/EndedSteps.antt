@@ -15,7 +15,7 @@ use Rattle.session.specs.Holding.{HoldThroughout, IsLeftBy}
 use Rattle.session.specs.Machine.{Machine, Idle, Reply, Rows, Refused, with_connection}
 use Rattle.session.specs.Outcomes.{answered, left_by}
 use Rattle.session.specs.Representation.{BeginsLog, Beside, IsGivenUp, IsTransaction, Represents, SettlesWhere, ShowTheSame, StepsTo, done_reply}
-use Rattle.session.specs.Supported.{StepSoFar}
+use Rattle.session.specs.TooLong.{StepOrTooLong}
 use Rattle.session.specs.declared.seats.Transaction.{Transaction}
 use Rattle.session.specs.declared.transactions.Connections.{Connections}
 use Rattle.session.proofs.Answered.{IsEnding, IsEndingFault, IsPlain, IsPlainFault, answered_fault, either_way, ending_refusal, fault_way}
@@ -23,15 +23,15 @@ use Rattle.session.proofs.ControlRefusals.{control_never_raises}
 use Rattle.session.proofs.Showing.{moved, the_same}
 
 -- a step is one of a refusal that is answered as it is
-pub plain_step : (m next : Machine) (c k : ℕ) (s : Statement) (r : Refusal) → IsPlain r → StepSoFar m c s (Refused r) next → StepSoFar m c s (Refused (answered r)) (left_by next k r)
-plain_step m next c k s r plain step = subst (λ (x : Machine). StepSoFar m c s (Refused (answered r)) x) (sym (plain.left next k))
-    (subst (λ (x : Refusal). StepSoFar m c s (Refused x) next) (sym plain.answer) step)
+pub plain_step : (m next : Machine) (c k : ℕ) (s : Statement) (r : Refusal) → IsPlain r → StepOrTooLong m c s (Refused r) next → StepOrTooLong m c s (Refused (answered r)) (left_by next k r)
+plain_step m next c k s r plain step = subst (λ (x : Machine). StepOrTooLong m c s (Refused (answered r)) x) (sym (plain.left next k))
+    (subst (λ (x : Refusal). StepOrTooLong m c s (Refused x) next) (sym plain.answer) step)
 
 module _ {D : Type 0} {g : Ghosts D} where
   -- this reply is a step of the present connection, where no commit has failed
   pub record AnswersTo (old : Connections D g) (m : Machine) (s : Statement) (reply : Reply) (new : Connections D g) : Type 0 where
     pub next : Machine
-    pub step : StepSoFar m old.connection s reply next
+    pub step : StepOrTooLong m old.connection s reply next
     pub shown : Represents new next
     pub crash : HoldThroughout (MayShow m next) (files_of old) (files_of new)
     pub renewed : BeginsLog old.parked.items (files_of old) m next (files_of new)
@@ -44,8 +44,8 @@ module _ {D : Type 0} {g : Ghosts D} where
   pub plain_answered : (old new : Connections D g) (m : Machine) (s : Statement) (r : Refusal) → IsPlain r → StepsTo old m s (Refused r) new → AnswersTo old m s (Refused r) new
   plain_answered old new m s r plain step = record {
     next = step.next;
-    step = subst (λ (x : Machine). StepSoFar m old.connection s (Refused r) x) (plain.left step.next new.connection)
-        (subst (λ (x : Refusal). StepSoFar m old.connection s (Refused x) (left_by step.next new.connection r)) plain.answer step.step);
+    step = subst (λ (x : Machine). StepOrTooLong m old.connection s (Refused r) x) (plain.left step.next new.connection)
+        (subst (λ (x : Refusal). StepOrTooLong m old.connection s (Refused x) (left_by step.next new.connection r)) plain.answer step.step);
     shown = step.shown;
     crash = step.crash;
     renewed = step.renewed;
@@ -106,4 +106,4 @@ module _ {D : Type 0} {g : Ghosts D} where
       by_way : IsPlain (refusal_of f) ⊎ IsEnding (refusal_of f) → AnswersTo old m s (Refused (refusal_of f)) new
       by_way (inl plain) = plain_answered old new m s (refusal_of f) plain step
       by_way (inr ends) = absurd (control_never_raises m old.connection s ends.text (left_by step.next new.connection (refusal_of f)) is
-          (subst (λ (r : Refusal). StepSoFar m old.connection s (Refused (answered r)) (left_by step.next new.connection (refusal_of f))) ends.is step.step))
+          (subst (λ (r : Refusal). StepOrTooLong m old.connection s (Refused (answered r)) (left_by step.next new.connection (refusal_of f))) ends.is step.step))

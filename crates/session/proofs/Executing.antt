@@ -14,7 +14,7 @@ use Rattle.sql_syntax.specs.declared.query.Query.{Query}
 use Rattle.sql_syntax.specs.declared.statement.CheckpointMode.{CheckpointMode}
 use Rattle.sql_syntax.specs.declared.statement.Statement.{Statement}
 use Rattle.sql_syntax.specs.declared.statement.Statement.TheVariants as statement
-use Rattle.session.specs.Supported.{StepSoFar}
+use Rattle.session.specs.TooLong.{StepOrTooLong}
 use Rattle.executor.specs.Forms.{answers_rows}
 use Rattle.wal.specs.declared.log.Log.{Log}
 use Rattle.session.specs.CopiedBack.{KeepsDisksWhereShort}
@@ -88,10 +88,10 @@ either true go other = go refl
 either false go other = other refl
 
 module _ (m : Machine) (n : ℕ) (s : Statement) where
-  failed_step : m.failed ≡ true → StepSoFar m n s (Refused refusal.Failed) m
+  failed_step : m.failed ≡ true → StepOrTooLong m n s (Refused refusal.Failed) m
   failed_step failed = inl (inl (failed, refl, refl))
 
-  numbered_step : m.failed ≡ false → is_connection n ≡ false → StepSoFar m n s (Refused refusal.Misuse) m
+  numbered_step : m.failed ≡ false → is_connection n ≡ false → StepOrTooLong m n s (Refused refusal.Misuse) m
   numbered_step running none = inl (inr (inl (running, none, refl, refl)))
 
 pub no_connection : (n : ℕ) → (n == 0 || nat_lt 16 n) ≡ true → is_connection n ≡ false
@@ -140,7 +140,7 @@ module _ {D : Type 0} {g : Ghosts D} where
       whole : first_refusal false n ≡ done
       whole = ap (λ b. first_refusal b n) (sym shown.whole) ∙ is
 
-  stays_with : (c : Connections D g) (m : Machine) (n : ℕ) (s : Statement) (r : Refusal) → Represents c m → StepSoFar m n s (Refused r) m → StepsOver c m n s (Refused r) c
+  stays_with : (c : Connections D g) (m : Machine) (n : ℕ) (s : Statement) (r : Refusal) → Represents c m → StepOrTooLong m n s (Refused r) m → StepsOver c m n s (Refused r) c
   stays_with c m n s r shows step = record {
     next = m;
     step = step;

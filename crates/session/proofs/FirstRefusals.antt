@@ -11,7 +11,7 @@ use Rattle.sqlval.specs.declared.fault.Fault.TheVariants as fault
 use Rattle.sql_syntax.specs.declared.statement.Statement.{Statement}
 use Rattle.wal.specs.declared.log.Log.{Log}
 use Rattle.executor.specs.Works.{change_made}
-use Rattle.executor.specs.Writes.{written}
+use Rattle.executor_programs.specs.Writes.{written}
 use Rattle.session.specs.ConnectionState.{files_of}
 use Rattle.session.specs.Machine.{Idle, Machine, NoSnapshot, Reads, Refused, another, is_writing, last_place, newest}
 use Rattle.session.specs.Outcomes.{RefusedBy, answered, left_by, outcome, worked, worked_alone}
@@ -20,7 +20,7 @@ use Rattle.session.specs.Saving.{in_transaction, states_of}
 use Rattle.session.specs.SavedTables.{savepoints_in}
 use Rattle.session.specs.Seats.{holds_writer}
 use Rattle.session.specs.Writers.{is_stale}
-use Rattle.executor.specs.declared.changes.Write.{Write}
+use Rattle.executor_programs.specs.declared.changes.Write.{Write}
 use Rattle.session.specs.declared.seats.Transaction.{Transaction}
 use Rattle.session.specs.declared.seats.Transaction.TheVariants as transaction
 use Rattle.session.specs.declared.transactions.Connections.{Connections}

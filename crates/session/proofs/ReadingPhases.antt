@@ -19,7 +19,7 @@ use Rattle.session.specs.Representation.{IsReadingIn, IsSnapshotOf, IsTransactio
 use Rattle.session.specs.Stored.{ShowsDatabase}
 use Rattle.session.specs.SavedTables.{Savepoints, committed_in, current_in, savepoints_in}
 use Rattle.session.specs.Saving.{IsUnwritten, states_of}
-use Rattle.session.specs.Supported.{database_of}
+use Rattle.session.specs.TooLong.{database_of}
 use Rattle.session.specs.Writers.{IsNewest, SeesBy, is_stale}
 use Rattle.session.proofs.SeenPages.{at_newest}
 use Rattle.session.specs.declared.savepoints.SavedCatalogs.{SavedCatalogs}

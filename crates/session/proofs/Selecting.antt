@@ -17,7 +17,7 @@ use Rattle.smallvec.specs.SmallVec.{SmallVec}
 use Rattle.std.specs.declared.alloc.Global.{Global}
 use Rattle.executor.specs.Reading.{AnswersRead}
 use Rattle.pager.specs.Views.{View, newest_view, view_at}
-use Rattle.session.specs.Supported.{StepSoFar}
+use Rattle.session.specs.TooLong.{StepOrTooLong}
 use Rattle.session.specs.Holding.{HoldThroughout}
 use Rattle.session.specs.ConnectionState.{files_of}
 use Rattle.session.specs.Machine.{Machine, Idle, NoSnapshot, Reads, Writes, Rows, Refused, committed, last_place, newest, with_connection}
@@ -116,7 +116,7 @@ module _ {D : Type 0} {g : Ghosts D} where
 
   -- a query's refusal, as it is answered, and what it leaves
   abbrev Refuses : Connections D g → Machine → Query → Refusal → Type 0
-  Refuses c m q r = StepSoFar m c.connection (statement.Select q) (Refused (answered r)) (left_by m c.connection r)
+  Refuses c m q r = StepOrTooLong m c.connection (statement.Select q) (Refused (answered r)) (left_by m c.connection r)
 
   select_step : (c : Connections D g) (m : Machine) (shown : RepresentsRunning c m) (q : Query) (f : Fault) → (s : Sees c m) → Answered (read_on s.db q) (Err f) → Refuses c m q (refusal_of f)
   select_step c m shown q f s (inl (inl memory)) = subst (λ (e : Fault). Refuses c m q (refusal_of e)) (sym memory)
@@ -135,7 +135,7 @@ module _ {D : Type 0} {g : Ghosts D} where
       let s = sees old m shown base in
       record {
         next = m;
-        step = subst (λ (b : Beside). StepSoFar m old.connection (statement.Select q) (Refused (answered (refusal_of f))) (left_by m b.connection (refusal_of f))) (sym reads.beside)
+        step = subst (λ (b : Beside). StepOrTooLong m old.connection (statement.Select q) (Refused (answered (refusal_of f))) (left_by m b.connection (refusal_of f))) (sym reads.beside)
             (select_step old m shown q f s (answers m s.db shown s.stored));
         shown = inr (still_shown old new m shown (reads.files shown.told) reads.beside reads.catalog reads.transaction);
         crash = crash_keeps old new m m shown (reads.files shown.told);
@@ -157,7 +157,7 @@ module _ {D : Type 0} {g : Ghosts D} where
       crash_of : (next : Machine) → HoldThroughout (MayShow m next) (files_of old) (files_of new)
       crash_of next = crash_keeps old new m next shown (subst (ShowTheSame (files_of old)) (sym starts.files) (reads.files shown.told))
 
-      step_of : (s : Sees old m) → StepSoFar m old.connection (statement.Select q) (Rows rows) s.next
+      step_of : (s : Sees old m) → StepOrTooLong m old.connection (statement.Select q) (Rows rows) s.next
       step_of s = by_outcome m old.connection (statement.Select q) shown.running shown.numbered _ (Rows rows) s.next (s.is q) (given_rows m s.next old.connection rows (read_on s.db q) (answered m s.db shown s.stored))
 
       other_shown : (t : Transaction) → old.transaction ≡ t → is_begun t ≡ false → RepresentsRunning new m

@@ -14,15 +14,15 @@ use Rattle.pager.specs.declared.writer.Writer.{Writer}
 use Rattle.session.specs.Machine.{newest}
 use Rattle.session.specs.Stored.{ShowsDatabase}
 use Rattle.session.specs.Applying.{CanApply, CommitsChanges, CommitsThen, IsPast}
-use Rattle.executor.specs.Writes.{written}
+use Rattle.executor_programs.specs.Writes.{written}
 use Rattle.session.specs.ConnectionState.{files_of, has_failed_in}
 use Rattle.session.specs.Limits.{may_be_full}
 use Rattle.session.specs.Failing.{IsPastIn, IsPastLimits, IsRefusedHere, has_written}
 use Rattle.session.specs.declared.transactions.Connections.{Connections}
 use Rattle.session.specs.declared.seats.Transaction.{Transaction}
 use Rattle.session.specs.declared.seats.Transaction.TheVariants as transaction
-use Rattle.executor.specs.declared.changes.Write.{Write}
-use Rattle.executor.specs.declared.changes.Write.TheVariants as write
+use Rattle.executor_programs.specs.declared.changes.Write.{Write}
+use Rattle.executor_programs.specs.declared.changes.Write.TheVariants as write
 use Rattle.session.proofs.CommitSteps.{writes_in}
 
 io_not_full : fault.Io ≡ fault.Full → ⊥
@@ -33,9 +33,7 @@ memory_not_full bad = absurd cc
 
 -- a statement that changes the database may find it full
 change_is_full : (w : Write) → may_be_full (written w) ≡ true
-change_is_full (write.Insert i) = refl
-change_is_full (write.Delete d) = refl
-change_is_full (write.Update u) = refl
+change_is_full (write.Change c) = refl
 change_is_full (write.Drop kind name) = refl
 change_is_full (write.CreateTable sql d) = refl
 change_is_full (write.CreateIndex sql d) = refl
@@ -48,9 +46,7 @@ write_is_full w s is = subst (λ (t : Statement). may_be_full t ≡ true) is (ch
 module _ {D : Type 0} {g : Ghosts D} where
   -- a change may take memory, and is no COMMIT
   change_refused : (c : Connections D g) (w : Write) (s : Statement) (f : Fault) → written w ≡ s → IsRefusedHere c s f
-  change_refused c (write.Insert i) s f is = subst (λ t. IsRefusedHere c t f) is (record { memory = λ memory. refl; full = λ m shown commit full. absurd cc })
-  change_refused c (write.Delete d) s f is = subst (λ t. IsRefusedHere c t f) is (record { memory = λ memory. refl; full = λ m shown commit full. absurd cc })
-  change_refused c (write.Update u) s f is = subst (λ t. IsRefusedHere c t f) is (record { memory = λ memory. refl; full = λ m shown commit full. absurd cc })
+  change_refused c (write.Change rows) s f is = subst (λ t. IsRefusedHere c t f) is (record { memory = λ memory. refl; full = λ m shown commit full. absurd cc })
   change_refused c (write.Drop kind name) s f is = subst (λ t. IsRefusedHere c t f) is (record { memory = λ memory. refl; full = λ m shown commit full. absurd cc })
   change_refused c (write.CreateTable sql d) s f is = subst (λ t. IsRefusedHere c t f) is (record { memory = λ memory. refl; full = λ m shown commit full. absurd cc })
   change_refused c (write.CreateIndex sql d) s f is = subst (λ t. IsRefusedHere c t f) is (record { memory = λ memory. refl; full = λ m shown commit full. absurd cc })

@@ -9,7 +9,7 @@ use Rattle.sql_syntax.specs.declared.statement.CheckpointMode.{CheckpointMode}
 use Rattle.sql_syntax.specs.declared.statement.Statement.{Statement}
 use Rattle.sql_syntax.specs.declared.statement.Statement.TheVariants as statement
 use Rattle.catalog.specs.Database.{Name}
-use Rattle.session.specs.Supported.{StepSoFar}
+use Rattle.session.specs.TooLong.{StepOrTooLong}
 use Rattle.session.specs.Machine.{Machine, Connection, InTransactionOf, NoSnapshot, Writes, Reply, another, connection, is_writing, last_place, newest, with_connection}
 use Rattle.session.specs.Outcomes.{Outcome, Gives, RefusedBy, outcome, read_outcome, control, begun}
 use Rattle.session.specs.Steps.{Allowed, Instead, is_connection}
@@ -17,10 +17,10 @@ use Rattle.session.specs.Steps.{Allowed, Instead, is_connection}
 -- ---- what a step may be
 
 module _ (m : Machine) (n : ℕ) (s : Statement) (running : m.failed ≡ false) (numbered : is_connection n ≡ true) where
-  pub by_outcome : (o : Outcome) (reply : Reply) (next : Machine) → outcome m n s ≡ o → Allowed m n o reply next → StepSoFar m n s reply next
+  pub by_outcome : (o : Outcome) (reply : Reply) (next : Machine) → outcome m n s ≡ o → Allowed m n o reply next → StepOrTooLong m n s reply next
   by_outcome o reply next is allowed = inl (inr (inr (running, numbered, inl (subst (λ x. Allowed m n x reply next) (sym is) allowed))))
 
-  pub instead : (o : Outcome) (reply : Reply) → outcome m n s ≡ o → Instead m o reply m → StepSoFar m n s reply m
+  pub instead : (o : Outcome) (reply : Reply) → outcome m n s ≡ o → Instead m o reply m → StepOrTooLong m n s reply m
   instead o reply is free = inl (inr (inr (running, numbered, inr (subst (λ x. Instead m x reply m) (sym is) free))))
 
 -- ---- outcomes by what the connection is

@@ -20,7 +20,7 @@ use Rattle.session.specs.Saving.{IsUnwritten, SavedAs, states_of}
 use Rattle.session.specs.Steps.{is_connection}
 use Rattle.session.specs.Stored.{ShowsDatabase}
 use Rattle.session.specs.Endings.{as_answered, once_answered}
-use Rattle.session.specs.Supported.{StepSoFar}
+use Rattle.session.specs.TooLong.{StepOrTooLong}
 use Rattle.session.proofs.EndedSteps.{AnswersTo}
 use Rattle.session.specs.declared.savepoints.SavedCatalogs.{SavedCatalogs}
 use Rattle.session.specs.declared.seats.Seat.{Seat}
@@ -213,7 +213,7 @@ module _ {D : Type 0} {g : Ghosts D} where
       → CopiesAnswered mid.parked.items (files_of mid) s reply (files_of new) → AnswersTo mid m s reply new → StepsOver old m n s reply new
   steps_over old mid new m n s reply files number others copied step = record {
     next = step.next;
-    step = subst (λ k. StepSoFar m k s reply step.next) number step.step;
+    step = subst (λ k. StepOrTooLong m k s reply step.next) number step.step;
     shown = step.shown;
     crash = subst (λ (l : Log D g). HoldThroughout (MayShow m step.next) l (files_of new)) files step.crash;
     copied = λ mode is rows answered. (let has = copied mode is rows answered in (
@@ -231,7 +231,7 @@ module _ {D : Type 0} {g : Ghosts D} where
       let step = steps m (shows m shown) in
       record {
         next = step.next;
-        step = subst (λ (b : Beside). StepSoFar m b.connection s (as_answered reply) (once_answered step.next new.connection reply)) beside step.step;
+        step = subst (λ (b : Beside). StepOrTooLong m b.connection s (as_answered reply) (once_answered step.next new.connection reply)) beside step.step;
         shown = step.shown;
         crash = subst (λ (l : Log D g). HoldThroughout (MayShow m step.next) l (files_of new)) files step.crash;
         renewed = subst (λ (b : Beside). BeginsLog b.parked (files_of old) m step.next (files_of new)) beside

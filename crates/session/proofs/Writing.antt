@@ -18,7 +18,7 @@ use Rattle.session.specs.declared.savepoints.SavedCatalogs.{SavedCatalogs}
 use Rattle.pager.specs.Views.{View, newest_view, view_of}
 use Rattle.pager.specs.declared.writer.Writer.{Writer}
 use Rattle.session.specs.Endings.{as_answered, once_answered}
-use Rattle.session.specs.Supported.{CannotMake, StepSoFar, database_of}
+use Rattle.session.specs.TooLong.{CannotStore, StepOrTooLong, database_of}
 use Rattle.session.specs.ConnectionState.{files_of, has_failed_in}
 use Rattle.session.specs.Machine.{Machine, Connection, Idle, InTransactionOf, NoSnapshot, Reads, SavepointState, Writes, Reply, Rows, Refused, connection, is_writing, last_place, newest}
 use Rattle.session.specs.Outcomes.{Outcome, answered, left_by, outcome}
@@ -27,14 +27,14 @@ use Rattle.session.specs.Steps.{Allowed, after_commit, fails}
 use Rattle.session.specs.Stored.{ShowsDatabase}
 use Rattle.session.specs.Representation.{Beside, IsSnapshotOf, IsWritingIn, MayWrite, RepresentsRunning, IsTransaction, OnlyReads, ShowTheSame, StepsOn, StepsTo, beside_in, done_reply, has_no_snapshot, is_idle, is_reading, with_transaction}
 use Rattle.session.specs.Applying.{CommitsChanges, EndsAlone, IsApplied, IsCommitCause, IsDropped, IsNotApplied, KeepsCommitted, Applies, CanApply, listing_of}
-use Rattle.executor.specs.Changing.{IsChangeRefusal}
+use Rattle.executor_programs.specs.Making.{IsRefusedStatement}
 use Rattle.session.specs.Changing.{ChangesPages, KeepsListed}
-use Rattle.executor.specs.Writes.{written}
+use Rattle.executor_programs.specs.Writes.{written}
 use Rattle.session.specs.Writers.{IsWriter}
 use Rattle.session.specs.declared.transactions.Connections.{Connections}
 use Rattle.session.specs.declared.seats.Transaction.{Transaction}
 use Rattle.session.specs.declared.seats.Transaction.TheVariants as transaction
-use Rattle.executor.specs.declared.changes.Write.{Write}
+use Rattle.executor_programs.specs.declared.changes.Write.{Write}
 use Rattle.session.proofs.Beginning.{StartsWriting, free_of, newest_listed, none_where_idle, writer_begins, writer_stores}
 use Rattle.session.proofs.CheckpointSteps.{copied_after, renewed_after, then_steps}
 use Rattle.session.proofs.CommitSteps.{committed_shown}
@@ -74,7 +74,7 @@ idle_now (transaction.Reading r) is = absurd (false≢true is)
 idle_now (transaction.Writing v) is = absurd (false≢true is)
 
 -- why a change was refused, as a step says it
-why_of : (s : Statement) (db : Database) (f : Fault) → IsChangeRefusal s db f → IsErrorCause (CannotMake s db) (change_made s db) f
+why_of : (s : Statement) (db : Database) (f : Fault) → IsRefusedStatement s db f → IsErrorCause (CannotStore s db) (change_made s db) f
 why_of s db f (inl out) = inl out
 why_of s db f (inr (inl why)) = inr (inl why)
 why_of s db f (inr (inr is)) = inr (inr (f, refl, is))
@@ -118,10 +118,10 @@ module _ {D : Type 0} {g : Ghosts D} where
   -- ---- refusals
 
   refused : (old new : Connections D g) (m : Machine) (w : Write) (finish : Work → Outcome) → RepresentsRunning old m → ShowTheSame (files_of old) (files_of new) → beside_in new ≡ beside_in old → RepresentsRunning new m → (ends : IsFinish m old.connection finish) (db : Database)
-      → database_of m (connection m old.connection) ≡ db → outcome m old.connection (written w) ≡ finish (change_made (written w) db) → (f : Fault) → IsErrorCause (CannotMake (written w) db) (change_made (written w) db) f → StepsTo old m (written w) (Refused (refusal_of f)) new
+      → database_of m (connection m old.connection) ≡ db → outcome m old.connection (written w) ≡ finish (change_made (written w) db) → (f : Fault) → IsErrorCause (CannotStore (written w) db) (change_made (written w) db) f → StepsTo old m (written w) (Refused (refusal_of f)) new
   refused old new m w finish before same beside behind ends db sees is f why = record {
     next = m;
-    step = subst (λ (b : Beside). StepSoFar m old.connection (written w) (Refused (answered (refusal_of f))) (left_by m b.connection (refusal_of f))) (sym beside)
+    step = subst (λ (b : Beside). StepOrTooLong m old.connection (written w) (Refused (answered (refusal_of f))) (left_by m b.connection (refusal_of f))) (sym beside)
         (refused_step m old.connection (written w) before.running before.numbered finish ends (change_made (written w) db) is db sees f why);
     shown = inr behind;
     crash = crash_keeps old new m m before same;
@@ -177,7 +177,7 @@ module _ {D : Type 0} {g : Ghosts D} where
       let opened = (opens m shown).1 in
       refused old new m x finish shown (reads.files shown.told) reads.beside (still_shown old new m shown (reads.files shown.told) reads.beside reads.catalog reads.transaction) opened.ends (newest m) opened.database opened.comes f (short (why m shown))
     where
-      short : (f ≡ fault.Memory) ⊎ (f ≡ fault.Io) → IsErrorCause (CannotMake (written x) (newest m)) (change_made (written x) (newest m)) f
+      short : (f ≡ fault.Memory) ⊎ (f ≡ fault.Io) → IsErrorCause (CannotStore (written x) (newest m)) (change_made (written x) (newest m)) f
       short out = inl (inl out)
 
   abbrev pub Started : Connections D g → Connections D g → Writer → Snapshot → Type 0
@@ -359,7 +359,7 @@ module _ {D : Type 0} {g : Ghosts D} where
           (other_catalog (files_of new) old.catalog new.catalog m old.transaction shown.present committed whole (gone.savepoints ∙ sym none_before)
           (still_transaction (files_of old) (files_of new) old.catalog m.history old.transaction shown.present same shown.transaction)))
 
-      short : (f : Fault) → IsCommitCause (files_of after) left f → IsErrorCause (CannotMake (written x) (newest m)) (change_made (written x) (newest m)) f
+      short : (f : Fault) → IsCommitCause (files_of after) left f → IsErrorCause (CannotStore (written x) (newest m)) (change_made (written x) (newest m)) f
       short f (inl memory) = inl (inl (inl memory))
       short f (inr full) = inl (inr full.0)
 
@@ -373,7 +373,7 @@ module _ {D : Type 0} {g : Ghosts D} where
           (by_outcome m old.connection (written x) shown.running shown.numbered (alone m (change_made (written x) (newest m))) (Rows []) (fails next) opened.comes (alone_commits_failed m old.connection has.made (change_made (written x) (newest m)) has.reaches))
       by_result (Err f) (inl io) = record {
         next = doubted m has.made;
-        step = subst (λ (e : Fault). StepSoFar m old.connection (written x) (as_answered (Refused (refusal_of e))) (once_answered (doubted m has.made) new.connection (Refused (refusal_of e)))) (sym io.io)
+        step = subst (λ (e : Fault). StepOrTooLong m old.connection (written x) (as_answered (Refused (refusal_of e))) (once_answered (doubted m has.made) new.connection (Refused (refusal_of e)))) (sym io.io)
             (by_outcome m old.connection (written x) shown.running shown.numbered (alone m (change_made (written x) (newest m))) (Refused refusal.Io) (doubted m has.made) opened.comes (alone_doubts m old.connection has.made (change_made (written x) (newest m)) has.reaches));
         shown = inl (io.failed, refl, doubt_left old after new m has.made shown worked newest_stored io.held f io);
         crash = doubt_crashes old after new m has.made shown worked newest_stored io.held;

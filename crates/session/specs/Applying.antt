@@ -21,7 +21,7 @@ use Rattle.pager.specs.Pruning.{AreNew}
 use Rattle.pager.specs.Views.{Tells, changes_of, newest_view, view_at}
 use Rattle.pager.specs.Writers.{snapshot_of}
 use Rattle.pager.specs.declared.writer.Writer.{Writer}
-use Rattle.executor.specs.Changing.{IsChangeRefusal}
+use Rattle.executor_programs.specs.Making.{IsRefusedStatement}
 use Rattle.session.specs.Changing.{Listing, CanChange, listing}
 use Rattle.executor.specs.Works.{Reaches, change_made}
 use Rattle.session.specs.Holding.{HoldThroughout, IsSettled}
@@ -61,7 +61,7 @@ module _ {D : Type 0} {g : Ghosts D} where
   pub record IsNotApplied (s : Statement) (old : Connections D g) (db : Database) (new : Connections D g) (f : Fault) : Type 0 where
     pub kept : KeepsCommitted old new
     pub tables : current_in new.catalog ≡ current_in old.catalog
-    pub why : IsChangeRefusal s db f
+    pub why : IsRefusedStatement s db f
 
   -- what a statement's write has come to; after a refusal the writer's pages may be any
   abbrev pub Applies : Statement → Connections D g → Writer → Database → Result ⊤ Fault → Connections D g → Writer → Type 0

@@ -12,7 +12,7 @@ use Rattle.wal.specs.declared.log.Log.{Log}
 use Rattle.pager.specs.Views.{Tells, view_of}
 use Rattle.pager.specs.declared.writer.Writer.{Writer}
 use Rattle.session.specs.Holding.{IsSettled}
-use Rattle.executor.specs.Changing.{IsChangeRefusal}
+use Rattle.executor_programs.specs.Making.{IsRefusedStatement}
 use Rattle.executor.specs.Works.{Reaches, change_made}
 use Rattle.session.specs.Representation.{ShowTheSame}
 use Rattle.session.specs.Writers.{IsWriter}
@@ -54,7 +54,7 @@ module _ {D : Type 0} {g : Ghosts D} where
   pub record IsChangeRefused (s : Statement) (old : Listing D g) (db : Database) (new : Listing D g) (f : Fault) : Type 0 where
     pub kept : KeepsListed old new
     pub tables : current_in new.catalog ≡ current_in old.catalog
-    pub why : IsChangeRefusal s db f
+    pub why : IsRefusedStatement s db f
 
   -- what a change of the writer's pages has come to that answers a catalog, whose tables are to be the current ones, or none where these stay
   abbrev pub MakesCatalog : Statement → Listing D g → Writer → Database → Result (Option Catalog) Fault → Log D g → Writer → Type 0

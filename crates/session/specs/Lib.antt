@@ -1,4 +1,4 @@
-pub mod Supported
+pub mod TooLong
 pub mod Laws
 pub mod Machine
 pub mod Outcomes

@@ -1,6 +1,5 @@
 -- Which statements may find the database full.
 use Rattle.std.specs.Prelude.{Bool, true, false}
-use Rattle.sql_syntax.specs.declared.change.Change.TheVariants as change
 use Rattle.sql_syntax.specs.declared.statement.Statement.{Statement}
 use Rattle.sql_syntax.specs.declared.statement.Statement.TheVariants as statement
 
@@ -8,9 +7,7 @@ use Rattle.sql_syntax.specs.declared.statement.Statement.TheVariants as statemen
 abbrev pub may_be_full : Statement → Bool
 may_be_full (statement.Create c) = true
 may_be_full (statement.Drop kind name) = true
-may_be_full (statement.Change (change.Insert i)) = true
-may_be_full (statement.Change (change.Delete d)) = true
-may_be_full (statement.Change (change.Update u)) = true
+may_be_full (statement.Change c) = true
 may_be_full statement.Commit = true
 may_be_full (statement.Release name) = true
 may_be_full _ = false

@@ -28,7 +28,7 @@ use Rattle.row_scan.specs.Rows.{values_of}
 use Rattle.pager.specs.Marks.{Changes, marks_of}
 use Rattle.pager.specs.Views.{View, Tells, newest_view, view_at, view_of}
 use Rattle.pager.specs.declared.writer.Writer.{Writer}
-use Rattle.session.specs.Supported.{StepSoFar}
+use Rattle.session.specs.TooLong.{StepOrTooLong}
 use Rattle.session.specs.Holding.{HoldThroughout, IsLeftBy, IsSettled}
 use Rattle.session.specs.ConnectionState.{files_of, has_failed_in}
 use Rattle.session.specs.CopiedBack.{CopiesBack, numbers_of}
@@ -203,7 +203,7 @@ module _ {D : Type 0} {g : Ghosts D} where
   -- This is a step from a machine to one that is shown after it, and at each moment of it a crash leaves a database that they may show.
   pub record StepsOver (old : Connections D g) (m : Machine) (connection : ℕ) (statement : Statement) (reply : Reply) (new : Connections D g) : Type 0 where
     pub next : Machine
-    pub step : StepSoFar m connection statement reply next
+    pub step : StepOrTooLong m connection statement reply next
     pub shown : Represents new next
     pub crash : HoldThroughout (MayShow m next) (files_of old) (files_of new)
     pub copied : CopiesAnswered (others_in old connection) (files_of old) statement reply (files_of new)
@@ -217,7 +217,7 @@ module _ {D : Type 0} {g : Ghosts D} where
   -- step once the connection has answered it, and has given its transaction up.
   pub record StepsTo (old : Connections D g) (m : Machine) (statement : Statement) (reply : Reply) (new : Connections D g) : Type 0 where
     pub next : Machine
-    pub step : StepSoFar m old.connection statement (as_answered reply) (once_answered next new.connection reply)
+    pub step : StepOrTooLong m old.connection statement (as_answered reply) (once_answered next new.connection reply)
     pub shown : Represents new next
     pub crash : HoldThroughout (MayShow m next) (files_of old) (files_of new)
     pub renewed : BeginsLog old.parked.items (files_of old) m next (files_of new)

@@ -3,7 +3,7 @@
 ghost use Rattle.std.specs.Prelude.{◌≡◌, Ok, Err, IfErr, true, false};
 ghost use Rattle.session.specs.SavedTables.{HasRoom};
 ghost use Rattle.session.specs.Failing.{IsRefusedHere, MarksFailure, ReadsFiles};
-ghost use Rattle.executor.specs.Writes.{written};
+ghost use Rattle.executor_programs.specs.Writes.{written};
 
 use crate::marks::save_marked;
 use crate::seats::Transaction;

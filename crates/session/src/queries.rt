@@ -8,7 +8,7 @@ ghost use Rattle.executor.specs.Works.{read_on};
 ghost use Rattle.catalog.specs.Database.{Database};
 ghost use Rattle.session.specs.SavedTables.{current_in};
 ghost use Rattle.session.specs.Failing.{ReadsFiles};
-ghost use Rattle.executor.specs.Writes.{written};
+ghost use Rattle.executor_programs.specs.Writes.{written};
 
 use crate::reads::{Sight, read};
 use crate::seats::Transaction;

@@ -12,13 +12,13 @@ ghost use Rattle.executor.specs.Forms as forms;
 ghost use Rattle.wal.specs.LogState.{db_of, log_of};
 ghost use Rattle.session.specs.Limits.{may_be_full};
 ghost use Rattle.session.specs.Failing.{IsRefusedFor, IsRefusedHere, MarksFailure, ReadsFiles, is_immediate};
-ghost use Rattle.executor.specs.Writes.{written};
+ghost use Rattle.executor_programs.specs.Writes.{written};
 
 use crate::savepoints::SavedCatalogs;
 use crate::seats::{Seat, Seats, Transaction, any_holds_writer, give_up_seats, trade};
 use catalog::Catalog;
 use disk::Disk;
-use executor::write_of;
+use executor_programs::write_of;
 use pager::Writer;
 use row_scan::Rows;
 use sql_syntax::{BeginMode, Statement};

@@ -9,14 +9,14 @@ ghost use Rattle.catalog.specs.Database.{Database};
 ghost use Rattle.session.specs.SavedTables.{committed_in};
 ghost use Rattle.session.specs.Failing.{MarksFailure, ReadsFiles};
 ghost use Rattle.session.specs.Applying.{EndsAlone, Applies, CanApply};
-ghost use Rattle.executor.specs.Writes.{written};
+ghost use Rattle.executor_programs.specs.Writes.{written};
 
 use crate::changes::apply;
 use crate::marks::mark_times;
 use crate::seats::Transaction;
 use crate::transactions::Connections;
 use disk::Disk;
-use executor::Write;
+use executor_programs::Write;
 use pager::Writer;
 use sqlval::{Fault, R};
 use std::mem;

@@ -1,20 +1,22 @@
 -- The rows that an INSERT gives, by their names.
-use Rattle.std.proofs.Common.{◌≡◌, ◌∙◌, ap, inl, inr, refl, subst, sym, ℕ, zero, suc, ◌+◌, Bool, true, false, not, ◌&&◌, ◌==◌, List, [], ◌∷◌, ◌++◌, length, map, Some, None, Result, Ok, Err, arith}
-use Rattle.std.specs.Prelude.{Contains}
-use Rattle.std.specs.List.{range_with_len}
+use Rattle.std.proofs.Common.{◌≡◌, ◌∙◌, ap, inl, inr, refl, subst, sym, ℕ, zero, suc, ◌+◌, Bool, true, false, not, ◌&&◌, ◌||◌, ◌==◌, if◌then◌else◌, List, [], ◌∷◌, ◌++◌, length, map, Some, None, Result, Ok, Err, arith}
+use Rattle.std.specs.Prelude.{Contains, IfOk}
+use Rattle.std.specs.List.{list_all, list_any, range_with_len}
+use Rattle.std.proofs.lemmas.Bool.{false≢true}
 use Rattle.std.proofs.lemmas.Bool.Decides.{nat_tests}
 use Rattle.sqlval.specs.Faults.{IsOrMemory}
-use Rattle.sqlval.specs.Refusals.{Misuse, refusal_of}
+use Rattle.sqlval.specs.Refusals.{Misuse, Refusal, refusal_of}
 use Rattle.sqlval.specs.declared.fault.Fault.{Fault}
 use Rattle.sql_syntax.specs.Tree.{Tree}
 use Rattle.sql_syntax.specs.declared.change.InsertSource.TheVariants as source
 use Rattle.sql_syntax.specs.declared.query.Query.{Query}
-use Rattle.catalog.specs.Database.{Database}
+use Rattle.catalog.specs.Database.{Database, Name}
 use Rattle.query_names.specs.Bound.{IsFaultOf}
-use Rattle.query_names.specs.Checked.{Checked, Meant, faults, good, known_all, unless}
+use Rattle.query_names.specs.Checked.{Checked, Meant, also, both, faults, good, known_all, meant, unless}
 use Rattle.query_names.specs.Expressions.{resolve}
 use Rattle.query_names.specs.Named.{NamesBy}
 use Rattle.query_names.specs.Queries.{resolve_query}
+use Rattle.query_names.specs.Scopes.{is_doubled, place_of, resolve_places}
 use Rattle.query_names.specs.Views.{look_up}
 use Rattle.query_names.specs.declared.reading.Reading.{Reading}
 use Rattle.query_names.specs.declared.scope.ScopeColumn.{ScopeColumn}
@@ -87,3 +89,65 @@ module _ (db : Database) (outer : Outer) (n : ℕ) where
 
 pub other_count : (counted_as len n : ℕ) → counted_as ≡ len → (counted_as ≡ n → ⊥) → (n == len) ≡ false
 other_count counted_as len n same differ = grind (arith, nat_tests)
+
+-- ---- how many values there are
+
+also_meant : {A : Type 0} (rs : List Refusal) (k : Checked A) → meant (also rs k) ≡ meant k
+also_meant rs (Meant x ss) = refl
+
+both_count : {A : Type 0} (k : Checked A) (l : Checked (List A)) (n : ℕ) → length (meant l) ≡ n → length (meant (both (λ x xs. x ∷ xs) k l)) ≡ suc n
+both_count (Meant x rs) (Meant xs ss) n e = ap suc e
+
+-- as many things are known as are meant
+each_counts : {A B : Type 0} (f : B → Checked A) (xs : List B) → length (meant (known_all (map f xs))) ≡ length xs
+each_counts f [] = refl
+each_counts f (x ∷ xs) = both_count (f x) (known_all (map f xs)) (length xs) (each_counts f xs)
+
+places_count : (s : ScopeSource) (names : List Name) (places : List ℕ) → resolve_places s names ≡ Meant places [] → length places ≡ length names
+places_count s names places is =
+    sym (ap (λ k. length (meant k)) is)
+    ∙ (ap length (also_meant (if is_doubled names then Misuse ∷ [] else []) (known_all (map (place_of s) names)))
+    ∙ each_counts (place_of s) names)
+
+-- as many places as a list of columns has names
+pub places_named : {X : Type 0} (view : X → List ℕ) (s : ScopeSource) (names : List Name) (result : Result X Fault) → NamesBy view (resolve_places s names) result → IfOk result (λ x. length (view x) ≡ length names)
+places_named view s names (Ok x) named = places_count s names (view x) named
+places_named view s names (Err f) named = tt
+
+range_count : (i n : ℕ) → length (range_with_len i n) ≡ n
+range_count i zero = refl
+range_count i (suc n) = ap suc (range_count (i + 1) n)
+
+-- as many places as there are columns
+pub places_of_all : {X : Type 0} (view : X → List ℕ) (n m : ℕ) (result : Result X Fault) → n ≡ m → IsOrMemory (λ x. view x ≡ range_with_len 0 n) result → IfOk result (λ x. length (view x) ≡ m)
+places_of_all view n m (Ok x) e h = ap length h ∙ (range_count 0 n ∙ e)
+places_of_all view n m (Err f) e h = tt
+
+counted_so : (n m k : ℕ) → (n == m) ≡ true → k ≡ m → (k == n) ≡ true
+counted_so n m k e same = grind (arith, nat_tests)
+
+both_true : (a b : Bool) → a ≡ true → b ≡ true → (a && b) ≡ true
+both_true a b e f = ap (λ c. c && b) e ∙ f
+
+abbrev has_other : ℕ → List (List Tree) → Bool
+has_other n rows = list_any (λ row. not (n == length row)) rows
+
+abbrev are_wide : ℕ → List (List Term) → Bool
+are_wide n terms = list_all (λ row. length row == n) terms
+
+wide_both : (n : ℕ) (k : Checked (List Term)) (l : Checked (List (List Term))) → (length (meant k) == n) ≡ true → are_wide n (meant l) ≡ true → are_wide n (meant (both (λ x xs. x ∷ xs) k l)) ≡ true
+wide_both n (Meant x rs) (Meant xs ss) e f = both_true (length x == n) (are_wide n xs) e f
+
+rows_count : (scope : List ScopeSource) (n : ℕ) (rows : List (List Tree)) → has_other n rows ≡ false → are_wide n (meant (rows_known scope rows)) ≡ true
+rows_count scope n [] h = refl
+rows_count scope n (row ∷ rows) h = by (λ rest. rows_count scope n rows rest) (n == length row) refl h
+  where
+    by : (has_other n rows ≡ false → are_wide n (meant (rows_known scope rows)) ≡ true) → (b : Bool) → (n == length row) ≡ b → (not b || has_other n rows) ≡ false
+        → are_wide n (meant (rows_known scope (row ∷ rows))) ≡ true
+    by wide true e rest =
+        wide_both n (row_known scope row) (rows_known scope rows) (counted_so n (length row) (length (meant (row_known scope row))) e (each_counts (resolve false scope) row)) (wide rest)
+    by wide false e rest = absurd (false≢true (sym rest))
+
+-- rows of so many values are known as such
+pub rows_wide : (scope : List ScopeSource) (n : ℕ) (rows : List (List Tree)) (terms : List (List Term)) → rows_known scope rows ≡ Meant terms [] → has_other n rows ≡ false → are_wide n terms ≡ true
+rows_wide scope n rows terms is h = ap (λ k. are_wide n (meant k)) (sym is) ∙ rows_count scope n rows h

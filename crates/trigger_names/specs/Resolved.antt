@@ -1,5 +1,6 @@
 -- A change whose names were looked up, beside its text (SQL As Understood By SQLite, "INSERT", "UPDATE", "DELETE").
-use Rattle.std.specs.Prelude.{ℕ, ℤ, List, [], ◌∷◌, ◌++◌, map, None, Result, Some, slice_get}
+use Rattle.std.specs.Prelude.{◌≡◌, ◌==◌, ⊤, ℕ, ℤ, Bool, true, List, [], ◌∷◌, ◌++◌, length, map, None, Option, Result, Some, slice_get}
+use Rattle.std.specs.List.{list_all}
 use Rattle.sqlval.specs.Names.{folded}
 use Rattle.sqlval.specs.declared.fault.Fault.{Fault}
 use Rattle.sqlval.specs.declared.value.Value.{Value}
@@ -24,6 +25,21 @@ use Rattle.trigger_names.specs.declared.giving.BoundRows.TheVariants as rows
 abbrev pub bound_given : BoundRows → Given
 bound_given (rows.Rows terms) = GivenRows terms
 bound_given (rows.Query reading) = GivenQuery reading
+
+-- how many values each row of an INSERT is to have: one for each column that its list names, or for each of all
+abbrev pub values_for : ScopeSource → Option (List Name) → ℕ
+values_for s None = length s.columns
+values_for s (Some names) = length names
+
+-- each row that is given has so many values
+abbrev pub gives_width : ℕ → BoundRows → Bool
+gives_width count (rows.Rows terms) = list_all (λ row. length row == count) terms
+gives_width count (rows.Query reading) = length reading.results == count
+
+-- an INSERT gives each row as many values as it has places
+abbrev pub GivesAsMany : BoundChange → Type 0
+GivesAsMany (bound.Insert places given) = gives_width (length places.items) given ≡ true
+GivesAsMany _ = ⊤
 
 -- the names of the columns that SET names, folded
 abbrev pub names_set : Change → List Name

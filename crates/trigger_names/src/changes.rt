@@ -1,6 +1,6 @@
 //! Changes of rows, by their names.
 
-ghost use Rattle.std.specs.Prelude.{◌≡◌, ℕ, ℤ, IfErr, List};
+ghost use Rattle.std.specs.Prelude.{◌≡◌, ℕ, ℤ, IfErr, IfOk, List};
 ghost use Rattle.sqlval.specs.Faults.{IsNotDiskFault, IsOrMemory};
 ghost use Rattle.sqlval.specs.declared.value.Value.{Value};
 ghost use Rattle.sql_syntax.specs.declared.change.Change.TheVariants as text;
@@ -11,7 +11,7 @@ ghost use Rattle.query_names.specs.Named.{NamesBy};
 ghost use Rattle.query_terms.specs.Values.{Row};
 ghost use Rattle.query_bind.specs.Named.{AreOuter};
 ghost use Rattle.row_change.specs.Changes.{resolve_change};
-ghost use Rattle.trigger_names.specs.Resolved.{IsLookedUp, resolved_of, row_seen};
+ghost use Rattle.trigger_names.specs.Resolved.{GivesAsMany, IsLookedUp, resolved_of, row_seen};
 
 use crate::giving::{BoundRows, bind_given};
 use crate::places::{value_places, values_wanted};
@@ -44,6 +44,7 @@ fn bind_insert(
     insert: &Insert,
 ) -> R<BoundChange>
     ensures named { IsLookedUp (listed_in catalog.now) outer.now (text.Insert insert.now) result }
+    ensures counted { IfOk result GivesAsMany }
     ensures not_disk { IfErr result IsNotDiskFault }
 {
     let source = bind_source(alloc, catalog, &insert.table)?;
@@ -70,6 +71,7 @@ fn bind_update(
     update: &Update,
 ) -> R<BoundChange>
     ensures named { IsLookedUp (listed_in catalog.now) outer.now (text.Update update.now) result }
+    ensures counted { IfOk result GivesAsMany }
     ensures not_disk { IfErr result IsNotDiskFault }
 {
     let source = bind_source(alloc, catalog, &update.table)?;
@@ -89,6 +91,7 @@ fn bind_delete(
     delete: &Delete,
 ) -> R<BoundChange>
     ensures named { IsLookedUp (listed_in catalog.now) outer.now (text.Delete delete.now) result }
+    ensures counted { IfOk result GivesAsMany }
     ensures not_disk { IfErr result IsNotDiskFault }
 {
     let source = bind_source(alloc, catalog, &delete.table)?;
@@ -109,6 +112,7 @@ pub fn bind_change(
         → IsOfListed rows_at (listed_in catalog.now) db
         → NamesBy (resolved_of change.now)
         (resolve_change db (record { scope = outer.now; rows = rows }) change.now) result }
+    ensures counted { IfOk result GivesAsMany }
     ensures not_disk { IfErr result IsNotDiskFault }
 {
     match change {

@@ -1,6 +1,6 @@
 //! The rows that an INSERT gives, by their names.
 
-ghost use Rattle.std.specs.Prelude.{◌≡◌, ◌==◌, Some, false, length, map, not, ℕ, ℤ, List, IfErr};
+ghost use Rattle.std.specs.Prelude.{◌≡◌, ◌==◌, Some, false, true, length, map, not, ℕ, ℤ, List, IfErr, IfOk};
 ghost use Rattle.std.specs.List.{list_any};
 ghost use Rattle.sqlval.specs.Faults.{IsNotDiskFault};
 ghost use Rattle.sqlval.specs.declared.value.Value.{Value};
@@ -13,7 +13,7 @@ ghost use Rattle.query_names.specs.Named.{NamesBy};
 ghost use Rattle.query_terms.specs.Values.{Row};
 ghost use Rattle.query_bind.specs.Named.{AreOuter};
 ghost use Rattle.row_change.specs.Changes.{resolve_given};
-ghost use Rattle.trigger_names.specs.Resolved.{bound_given};
+ghost use Rattle.trigger_names.specs.Resolved.{bound_given, gives_width};
 
 use catalog::Catalog;
 use query_bind::bind_reading_beside;
@@ -71,6 +71,7 @@ fn bind_values_given(
 ) -> R<BoundRows>
     ensures named { (db : Database) (held : List Row) → NamesBy bound_given
         (resolve_given db (record { scope = outer.now; rows = held }) (Some count) (text.Rows rows.now)) result }
+    ensures wide { IfOk result (λ rows. gives_width count rows ≡ true) }
     ensures not_disk { IfErr result IsNotDiskFault }
 {
     if has_other_count(rows, count) {
@@ -91,6 +92,7 @@ fn bind_query_given(
     ensures named { (rows_at : ℕ → List (ℤ × List Value)) (db : Database) (held : List Row) → AreOuter outer.now
         → Lists rows_at (listed_in catalog.now) db → NamesBy bound_given
         (resolve_given db (record { scope = outer.now; rows = held }) (Some count) (text.Query query.now)) result }
+    ensures wide { IfOk result (λ rows. gives_width count rows ≡ true) }
     ensures not_disk { IfErr result IsNotDiskFault }
 {
     let bound = bind_reading_beside(alloc, catalog, outer, query)?;
@@ -111,6 +113,7 @@ pub fn bind_given(
     ensures named { (rows_at : ℕ → List (ℤ × List Value)) (db : Database) (held : List Row) → AreOuter outer.now
         → Lists rows_at (listed_in catalog.now) db → NamesBy bound_given
         (resolve_given db (record { scope = outer.now; rows = held }) (Some count) source.now) result }
+    ensures wide { IfOk result (λ rows. gives_width count rows ≡ true) }
     ensures not_disk { IfErr result IsNotDiskFault }
 {
     match source {

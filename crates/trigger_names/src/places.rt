@@ -1,10 +1,11 @@
 //! The columns that an INSERT gives values for, by their places.
 
-ghost use Rattle.std.specs.Prelude.{◌≡◌, Some, true, IfErr};
+ghost use Rattle.std.specs.Prelude.{◌≡◌, Some, length, true, IfErr, IfOk};
 ghost use Rattle.std.specs.List.{range_with_len};
 ghost use Rattle.sqlval.specs.Faults.{IsNotDiskFault, IsOrMemory};
 ghost use Rattle.query_names.specs.Named.{NamesBy};
 ghost use Rattle.row_change.specs.Changes.{insert_places, wanted};
+ghost use Rattle.trigger_names.specs.Resolved.{values_for};
 
 use query_bind::bind_places;
 use query_names::ScopeSource;
@@ -29,6 +30,7 @@ pub fn value_places(
     columns: &Option<Many<Name>>,
 ) -> R<Vec<usize>>
     ensures named { NamesBy (λ places. places.items) (insert_places source.now columns.now) result }
+    ensures many { IfOk result (λ places. length places.items ≡ values_for source.now columns.now) }
     ensures not_disk { IfErr result IsNotDiskFault }
 {
     match columns {
@@ -39,7 +41,8 @@ pub fn value_places(
 
 /// How many values each row of an INSERT is to have.
 pub fn values_wanted(source: &ScopeSource, columns: &Option<Many<Name>>) -> usize
-    ensures { source.now.is_known ≡ true → wanted source.now columns.now ≡ Some result }
+    ensures wanted { source.now.is_known ≡ true → wanted source.now columns.now ≡ Some result }
+    ensures many { result ≡ values_for source.now columns.now }
 {
     match columns {
         Some(names) => names.len(),

@@ -1,15 +1,12 @@
 use Rattle.std.proofs.Common.{◌≡◌, ◌∙◌, ap, map, length, false, rules}
-use Rattle.sql_syntax.specs.declared.change.Change.TheVariants as kind
 use Rattle.catalog.specs.Listed.{listed_in}
-use Rattle.trigger.specs.Laws.{SetsOffNothing}
 use Rattle.db_write.specs.Changing.{InsertsInTrees}
 use Rattle.executor.proofs.Insertions.{Laws, given_as, passed_on, places_long, put_makes, read_before, rows_refused, target_refused}
 use Rattle.executor.proofs.inserting.insert.Goals as goal
 use Rattle.executor.specs.Refusing.{is_view_named}
-use Rattle.executor.proofs.RefusedViews.{sets_off}
 
 pub returns-in_err-target-clause-made : goal.returns-in_err-target-clause-made
-returns-in_err-target-clause-made g c told db held =
+returns-in_err-target-clause-made g c told db held still =
     let laws : Laws = record {
       lists = c.other_rows_are_listed.ensures.lists;
       named = c.named_databases_are_one.ensures.named;
@@ -19,14 +16,12 @@ returns-in_err-target-clause-made g c told db held =
       none = c.only_tables_set_nothing_off.ensures.none;
       indexes = c.listed_indexes_are_found.ensures;
     } in
-    let said = c.in_ok-expect_still.ensures.still held.rows_at db held.of_listed in
-    let still : SetsOffNothing db (kind.Insert c.args.insert.now) = search (rules, said) in
     let plain : is_view_named (listed_in c.args.catalog.now) c.args.insert.now.table ≡ false = search rules in
-    passed_on _ _ c.from_residual-in_err-target.result c.in_err-target.field-0.0 c.from_residual-in_err-target.ensures.1
+    passed_on _ _ c.from_residual.result c.in_err-target.field-0.0 c.from_residual.ensures.1
     (target_refused laws _ _ (listed_in c.args.catalog.now) db held c.args.insert.now still plain c.in_err-target.field-0.0 c.in_err-target.ensures.refused)
 
 pub returns-in_err-rows-clause-made : goal.returns-in_err-rows-clause-made
-returns-in_err-rows-clause-made g c told db held =
+returns-in_err-rows-clause-made g c told db held still =
     let laws : Laws = record {
       lists = c.other_rows_are_listed.ensures.lists;
       named = c.named_databases_are_one.ensures.named;
@@ -36,8 +31,6 @@ returns-in_err-rows-clause-made g c told db held =
       none = c.only_tables_set_nothing_off.ensures.none;
       indexes = c.listed_indexes_are_found.ensures;
     } in
-    let said = c.in_ok-expect_still.ensures.still held.rows_at db held.of_listed in
-    let still : SetsOffNothing db (kind.Insert c.args.insert.now) = search (rules, said) in
     let plain : is_view_named (listed_in c.args.catalog.now) c.args.insert.now.table ≡ false = search rules in
     let target = c.in_ok-target.target in
     passed_on _ _ c.from_residual-in_err-rows.result c.in_err-rows.field-0.0 c.from_residual-in_err-rows.ensures.1
@@ -45,7 +38,7 @@ returns-in_err-rows-clause-made g c told db held =
     c.in_err-rows.field-0.0 (c.in_err-rows.ensures.given db told held))
 
 pub returns-clause-made : goal.returns-clause-made
-returns-clause-made g c told db held =
+returns-clause-made g c told db held still =
     let i = c.args.insert.now in
     let target = c.in_ok-target.target in
     let t = target.table.now in
@@ -60,8 +53,6 @@ returns-clause-made g c told db held =
       none = c.only_tables_set_nothing_off.ensures.none;
       indexes = c.listed_indexes_are_found.ensures;
     } in
-    let said = c.in_ok-expect_still.ensures.still held.rows_at db held.of_listed in
-    let still : SetsOffNothing db (kind.Insert c.args.insert.now) = search (rules, said) in
     let plain : is_view_named (listed_in c.args.catalog.now) c.args.insert.now.table ≡ false = search rules in
     let given = c.in_ok-rows.ensures.given db told held in
     let is = given_as laws _ _ l db held i still plain t target.count c.in_ok-target.ensures.table c.in_ok-target.ensures.listed c.in_ok-target.ensures.count rows target.places.items
@@ -75,12 +66,5 @@ returns-clause-made g c told db held =
     put_makes laws _ _ l db held i t target.places.items rows c.in_ok-target.ensures.table still is long new c.insert_rows.result puts
 
 pub returns-then-is_view-clause-made : goal.returns-then-is_view-clause-made
-returns-then-is_view-clause-made g c told db held =
-    let said = c.in_ok-expect_still.ensures.still held.rows_at db held.of_listed in
-    let still : SetsOffNothing db (kind.Insert c.args.insert.now) = search (rules, said) in
+returns-then-is_view-clause-made g c told db held still =
     c.refuse_insert.ensures.refused held.rows_at db held.of_listed still (search rules)
-
-pub returns-in_err-expect_still-clause-made : goal.returns-in_err-expect_still-clause-made
-returns-in_err-expect_still-clause-made g c told db held =
-    passed_on _ _ c.from_residual.result c.in_err-expect_still.field-0.0 c.from_residual.ensures.1
-    (sets_off (kind.Insert c.args.insert.now) db c.in_err-expect_still.field-0.0 (c.in_err-expect_still.ensures.still held.rows_at db held.of_listed))

@@ -1,15 +1,12 @@
 use Rattle.std.proofs.Common.{◌≡◌, false, rules}
-use Rattle.sql_syntax.specs.declared.change.Change.TheVariants as kind
 use Rattle.catalog.specs.Listed.{listed_in}
-use Rattle.trigger.specs.Laws.{SetsOffNothing}
 use Rattle.executor.proofs.Insertions.{passed_on}
 use Rattle.executor.proofs.Updates.{Laws, name_refused, set_makes, sets_refused, where_refused}
 use Rattle.executor.proofs.updating.update_rows.Goals as goal
 use Rattle.executor.specs.Refusing.{is_view_named}
-use Rattle.executor.proofs.RefusedViews.{sets_off}
 
 pub returns-in_err-table-clause-made : goal.returns-in_err-table-clause-made
-returns-in_err-table-clause-made g c told db held =
+returns-in_err-table-clause-made g c told db held still =
     let laws : Laws = record {
       lists = c.other_rows_are_listed.ensures.lists;
       named = c.named_databases_are_one.ensures.named;
@@ -17,13 +14,12 @@ returns-in_err-table-clause-made g c told db held =
       updates = c.update_sets_off_nothing.ensures;
       indexes = c.listed_indexes_are_found.ensures;
     } in
-    let still : SetsOffNothing db (kind.Update c.args.update.now) = rw (c.as_slice-assignments.ensures) at (c.in_ok-expect_still.ensures.still held.rows_at db held.of_listed) in
     let plain : is_view_named (listed_in c.args.catalog.now) c.args.update.now.table ≡ false = search rules in
-    passed_on _ _ c.from_residual-in_err-table.result c.in_err-table.field-0.0 c.from_residual-in_err-table.ensures.1
+    passed_on _ _ c.from_residual.result c.in_err-table.field-0.0 c.from_residual.ensures.1
     (name_refused laws _ _ (listed_in c.args.catalog.now) db held c.args.update.now still plain c.in_err-table.field-0.0 c.in_err-table.ensures.refused)
 
 pub returns-in_err-sets-clause-made : goal.returns-in_err-sets-clause-made
-returns-in_err-sets-clause-made g c told db held =
+returns-in_err-sets-clause-made g c told db held still =
     let laws : Laws = record {
       lists = c.other_rows_are_listed.ensures.lists;
       named = c.named_databases_are_one.ensures.named;
@@ -31,13 +27,12 @@ returns-in_err-sets-clause-made g c told db held =
       updates = c.update_sets_off_nothing.ensures;
       indexes = c.listed_indexes_are_found.ensures;
     } in
-    let still : SetsOffNothing db (kind.Update c.args.update.now) = rw (c.as_slice-assignments.ensures) at (c.in_ok-expect_still.ensures.still held.rows_at db held.of_listed) in
     let plain : is_view_named (listed_in c.args.catalog.now) c.args.update.now.table ≡ false = search rules in
     passed_on _ _ c.from_residual-in_err-sets.result c.in_err-sets.field-0.0 c.from_residual-in_err-sets.ensures.1
     (sets_refused laws _ _ (listed_in c.args.catalog.now) db held c.args.update.now still plain c.in_ok-table.table.now c.in_ok-table.ensures.found c.in_err-sets.field-0.0 (rw (c.as_slice-assignments.ensures) at c.in_err-sets.ensures.refused))
 
 pub returns-in_err-condition-clause-made : goal.returns-in_err-condition-clause-made
-returns-in_err-condition-clause-made g c told db held =
+returns-in_err-condition-clause-made g c told db held still =
     let laws : Laws = record {
       lists = c.other_rows_are_listed.ensures.lists;
       named = c.named_databases_are_one.ensures.named;
@@ -45,13 +40,12 @@ returns-in_err-condition-clause-made g c told db held =
       updates = c.update_sets_off_nothing.ensures;
       indexes = c.listed_indexes_are_found.ensures;
     } in
-    let still : SetsOffNothing db (kind.Update c.args.update.now) = rw (c.as_slice-assignments.ensures) at (c.in_ok-expect_still.ensures.still held.rows_at db held.of_listed) in
     let plain : is_view_named (listed_in c.args.catalog.now) c.args.update.now.table ≡ false = search rules in
     passed_on _ _ c.from_residual-in_err-condition.result c.in_err-condition.field-0.0 c.from_residual-in_err-condition.ensures.1
     (where_refused laws _ _ (listed_in c.args.catalog.now) db held c.args.update.now still plain c.in_ok-table.table.now c.in_ok-table.ensures.found c.in_err-condition.field-0.0 c.in_err-condition.ensures.named)
 
 pub returns-clause-made : goal.returns-clause-made
-returns-clause-made g c told db held =
+returns-clause-made g c told db held still =
     let laws : Laws = record {
       lists = c.other_rows_are_listed.ensures.lists;
       named = c.named_databases_are_one.ensures.named;
@@ -59,18 +53,11 @@ returns-clause-made g c told db held =
       updates = c.update_sets_off_nothing.ensures;
       indexes = c.listed_indexes_are_found.ensures;
     } in
-    let still : SetsOffNothing db (kind.Update c.args.update.now) = rw (c.as_slice-assignments.ensures) at (c.in_ok-expect_still.ensures.still held.rows_at db held.of_listed) in
     let plain : is_view_named (listed_in c.args.catalog.now) c.args.update.now.table ≡ false = search rules in
     set_makes laws _ _ (listed_in c.args.catalog.now) db held c.args.update.now still plain c.in_ok-table.table.now c.in_ok-table.ensures.found
     c.in_ok-sets.sets.items (rw (c.as_slice-assignments.ensures) at c.in_ok-sets.ensures.known) (rw (c.as_slice-assignments.ensures) at c.in_ok-sets.ensures.sets) c.in_ok-condition.condition c.in_ok-condition.ensures.named _ c.update_rows.result
     (rw (c.deref.ensures.value) at (c.update_rows.ensures.updated told))
 
 pub returns-then-is_view-clause-made : goal.returns-then-is_view-clause-made
-returns-then-is_view-clause-made g c told db held =
-    let still : SetsOffNothing db (kind.Update c.args.update.now) = rw (c.as_slice-assignments.ensures) at (c.in_ok-expect_still.ensures.still held.rows_at db held.of_listed) in
+returns-then-is_view-clause-made g c told db held still =
     c.refuse_update.ensures.refused held.rows_at db held.of_listed still (search rules)
-
-pub returns-in_err-expect_still-clause-made : goal.returns-in_err-expect_still-clause-made
-returns-in_err-expect_still-clause-made g c told db held =
-    passed_on _ _ c.from_residual.result c.in_err-expect_still.field-0.0 c.from_residual.ensures.1
-    (sets_off (kind.Update c.args.update.now) db c.in_err-expect_still.field-0.0 (rw (c.as_slice-assignments.ensures) at (c.in_err-expect_still.ensures.still held.rows_at db held.of_listed)))

@@ -9,23 +9,23 @@ use Rattle.sql_syntax.specs.declared.create.TriggerTime.TheVariants.{After}
 use Rattle.trigger_names.specs.Programs.{HasRowsOf}
 use Rattle.executor_programs.specs.Acts.{time_before}
 use Rattle.catalog.specs.Database.{Name}
-use Rattle.executor_programs.proofs.Around.{firing_at, has_rows, or_memory, same_definitions}
+use Rattle.executor_programs.proofs.Around.{firing_at, handed_memory, has_rows, or_memory, same_definitions}
 use Rattle.executor_programs.proofs.acts.act_around.Goals as goal
 
-pub returns-in_err-before : goal.returns-in_err-before
-returns-in_err-before c = λ rows_at db of. or_memory _ c.in_err-before.field-0.0 c.from_residual.result c.from_residual.ensures.1 (c.in_err-before.ensures.found rows_at db of)
+pub returns-in_err-before-clause-around : goal.returns-in_err-before-clause-around
+returns-in_err-before-clause-around c = λ rows_at db of. or_memory _ c.in_err-before.field-0.0 c.from_residual.result c.from_residual.ensures.1 (c.in_err-before.ensures.found rows_at db of)
 
-pub returns-in_err-after : goal.returns-in_err-after
-returns-in_err-after c = λ rows_at db of. or_memory _ c.in_err-after.field-0.0 c.from_residual-in_err-after.result c.from_residual-in_err-after.ensures.1 (c.in_err-after.ensures.found rows_at db of)
+pub returns-in_err-after-clause-around : goal.returns-in_err-after-clause-around
+returns-in_err-after-clause-around c = λ rows_at db of. or_memory _ c.in_err-after.field-0.0 c.from_residual-in_err-after.result c.from_residual-in_err-after.ensures.1 (c.in_err-after.ensures.found rows_at db of)
 
-pub returns-in_err-scope : goal.returns-in_err-scope
-returns-in_err-scope c = λ rows_at db of.
+pub returns-in_err-scope-clause-around : goal.returns-in_err-scope-clause-around
+returns-in_err-scope-clause-around c = λ rows_at db of.
     or_memory _ c.in_err-scope.field-0.0 c.from_residual-in_err-scope.result c.from_residual-in_err-scope.ensures.1
     (c.in_err-scope.ensures.seen (firing_at (event_of c.event_in-event.result) c.args.source.now.columns c.args.source.now.has_rowid) refl refl
     (has_rows (event_of c.event_in-event.result) c.args.source.now.columns c.args.source.now.has_rowid))
 
-pub returns : goal.returns
-returns c = λ rows_at db of columns rowid.
+pub returns-clause-around : goal.returns-clause-around
+returns-clause-around c = λ rows_at db of columns rowid.
     record {
       scope = λ f row. c.in_ok-scope.ensures.seen f (row.columns ∙ sym columns) (row.has_rowid ∙ sym rowid) (subst (λ (e : Event). HasRowsOf e f) (sym c.event_in-event.ensures) row.has);
       known = c.in_ok-scope.ensures.outer;
@@ -37,3 +37,9 @@ returns c = λ rows_at db of columns rowid.
           ∙ ap (λ (e : Event). triggers_at After e db (folded c.target_of-target.result.now)) c.event_in-event.ensures
           ∙ ap (λ (n : Name). triggers_at After (aim_of c.args.change.now).event db n) c.target_of-target.ensures;
     }
+
+pub returns-in_err-scope-clause-refused : goal.returns-in_err-scope-clause-refused
+returns-in_err-scope-clause-refused c =
+    handed_memory c.in_err-scope.field-0.0 c.from_residual-in_err-scope.result c.from_residual-in_err-scope.ensures.1
+    (c.in_err-scope.ensures.seen (firing_at (event_of c.event_in-event.result) c.args.source.now.columns c.args.source.now.has_rowid) refl refl
+    (has_rows (event_of c.event_in-event.result) c.args.source.now.columns c.args.source.now.has_rowid))

@@ -1,6 +1,6 @@
 use Rattle.std.proofs.Common.{subst, Option, Ok}
 use Rattle.catalog.specs.declared.tables.Catalog.{Catalog}
-use Rattle.executor.specs.Writes.{written}
+use Rattle.executor_programs.specs.Writes.{written}
 use Rattle.session.specs.Changing.{MakesCatalog, listing}
 use Rattle.session.proofs.ChangedPages.{not_shared, noted}
 use Rattle.session.proofs.changes.apply.Goals as goal

@@ -28,7 +28,7 @@ returns-in_err-rows-clause-named c rows_at db held outer lists =
     let s = c.in_ok-source.source in
     let at = target_is db i.table s (c.in_ok-source.ensures.named rows_at db lists) in
     handed_on (resolved_of (kind.Insert i)) (resolve_change db (around db o held) (kind.Insert i)) c.in_err-rows.field-0.0 c.from_residual-in_err-rows.result c.from_residual-in_err-rows.ensures.1
-    (given_refused db o held i s at c.values_wanted-count.result (c.values_wanted-count.ensures at.known) c.in_err-rows.field-0.0 (c.in_err-rows.ensures.named rows_at db held outer lists))
+    (given_refused db o held i s at c.values_wanted-count.result (c.values_wanted-count.ensures.wanted at.known) c.in_err-rows.field-0.0 (c.in_err-rows.ensures.named rows_at db held outer lists))
 
 pub returns-clause-named : goal.returns-clause-named
 returns-clause-named c rows_at db held outer lists =
@@ -36,5 +36,5 @@ returns-clause-named c rows_at db held outer lists =
     let o = c.args.outer.now in
     let s = c.in_ok-source.source in
     let at = target_is db i.table s (c.in_ok-source.ensures.named rows_at db lists) in
-    insert_known db o held i s at c.values_wanted-count.result (c.values_wanted-count.ensures at.known) c.in_ok-places.places.items _ c.in_ok-places.ensures.named
+    insert_known db o held i s at c.values_wanted-count.result (c.values_wanted-count.ensures.wanted at.known) c.in_ok-places.places.items _ c.in_ok-places.ensures.named
     (c.in_ok-rows.ensures.named rows_at db held outer lists)

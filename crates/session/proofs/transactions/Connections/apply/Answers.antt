@@ -1,5 +1,5 @@
 use Rattle.std.proofs.Common.{refl}
-use Rattle.executor.specs.Writes.{written}
+use Rattle.executor_programs.specs.Writes.{written}
 use Rattle.session.proofs.Writing.{applied}
 use Rattle.session.proofs.transactions.Connections.apply.Goals as goal
 

@@ -1,6 +1,6 @@
 use Rattle.std.proofs.Common.{◌∙◌}
 use Rattle.pager.specs.Marks.{marks_of, now_of}
-use Rattle.executor.specs.Writes.{written}
+use Rattle.executor_programs.specs.Writes.{written}
 use Rattle.session.proofs.Marked.{at_last_mark, moved_on, released, unmarked}
 use Rattle.session.proofs.transactions.Connections.apply_marked.Goals as goal
 

@@ -1,7 +1,7 @@
 use Rattle.std.proofs.Common.{inl, refl, sym, ap, subst, ◌∙◌, ◌++◌, arith}
 use Rattle.std.specs.Prelude.{replicate}
 use Rattle.pager.specs.Marks.{marks_of, now_of}
-use Rattle.executor.specs.Writes.{written}
+use Rattle.executor_programs.specs.Writes.{written}
 use Rattle.session.specs.Machine.{Reply}
 use Rattle.session.specs.Representation.{StepsTo}
 use Rattle.session.proofs.Beginning.{done_refused, first_there}

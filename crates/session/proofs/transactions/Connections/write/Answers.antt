@@ -1,6 +1,6 @@
 use Rattle.session.proofs.Writing.{reading_else, with_own}
 use Rattle.session.specs.Representation.{done_reply, is_idle}
-use Rattle.executor.specs.Writes.{written}
+use Rattle.executor_programs.specs.Writes.{written}
 use Rattle.session.specs.declared.seats.Transaction.TheVariants as transaction
 use Rattle.std.proofs.Common.{ap, sym, ◌∙◌}
 use Rattle.session.proofs.transactions.Connections.write.Goals as goal

@@ -3,7 +3,7 @@ use Rattle.session.specs.ConnectionState.{files_of}
 use Rattle.session.specs.Machine.{Reply}
 use Rattle.session.specs.Representation.{StepsTo}
 use Rattle.session.specs.Writers.{IsNewest}
-use Rattle.executor.specs.Writes.{written}
+use Rattle.executor_programs.specs.Writes.{written}
 use Rattle.session.proofs.Beginning.{done_refused, first_there}
 use Rattle.session.proofs.Showing.{read_files}
 use Rattle.session.proofs.Applying.{alone}

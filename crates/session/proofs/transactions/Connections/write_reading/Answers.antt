@@ -1,5 +1,5 @@
 use Rattle.std.proofs.Common.{sym, ap, subst, ◌∙◌}
-use Rattle.executor.specs.Writes.{written}
+use Rattle.executor_programs.specs.Writes.{written}
 use Rattle.session.specs.Machine.{Reply}
 use Rattle.session.specs.Representation.{StepsTo, done_reply, is_reading, with_transaction}
 use Rattle.session.proofs.Beginning.{done_refused}

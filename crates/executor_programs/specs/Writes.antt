@@ -1,19 +1,16 @@
 -- The statements that change a database (SQL As Understood By SQLite, "INSERT", "DELETE", "UPDATE", "CREATE TABLE", "CREATE INDEX", "CREATE VIEW", "CREATE TRIGGER", "DROP TABLE").
 use Rattle.std.specs.Prelude.{Bool, true, false, Option, Some, None}
-use Rattle.sql_syntax.specs.declared.change.Change.TheVariants as change
 use Rattle.sql_syntax.specs.declared.create.NewObject.TheVariants as new
 use Rattle.sql_syntax.specs.declared.statement.Statement.{Statement}
 use Rattle.sql_syntax.specs.declared.statement.Statement.TheVariants as statement
 use Rattle.catalog.specs.Listed.{Listed, listed_in}
 use Rattle.catalog.specs.declared.tables.Catalog.{Catalog}
-use Rattle.executor.specs.declared.changes.Write.{Write}
-use Rattle.executor.specs.declared.changes.Write.TheVariants as write
+use Rattle.executor_programs.specs.declared.changes.Write.{Write}
+use Rattle.executor_programs.specs.declared.changes.Write.TheVariants as write
 
 -- the statement that a change is
 abbrev pub written : Write → Statement
-written (write.Insert i) = statement.Change (change.Insert i.now)
-written (write.Delete d) = statement.Change (change.Delete d.now)
-written (write.Update u) = statement.Change (change.Update u.now)
+written (write.Change c) = statement.Change c.now
 written (write.Drop kind name) = statement.Drop kind name.now
 written (write.CreateTable sql d) = statement.Create (record { sql = sql.now; object = new.Table d.now })
 written (write.CreateIndex sql d) = statement.Create (record { sql = sql.now; object = new.Index d.now })
