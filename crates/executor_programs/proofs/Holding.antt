@@ -1,5 +1,5 @@
 -- Whether what stands after WHEN is true beside NEW and OLD.
-use Rattle.std.proofs.Common.{◌≡◌, ◌∙◌, ◌++◌, inl, inr, refl, sym, ap, subst, Bool, true, false, List, [], ◌∷◌, Option, Some, None, Result, Ok, Err, arith}
+use Rattle.std.proofs.Common.{◌≡◌, ◌∙◌, inl, inr, refl, sym, ap, subst, Bool, true, false, List, [], Option, Some, None, Result, Ok, Err, arith}
 use Rattle.std.specs.Prelude.{Contains, IsErrAnd, unwrap_or}
 use Rattle.sqlval.specs.Refusals.{Answer, Refusal, ◌then◌, refusal_of}
 use Rattle.sqlval.specs.declared.fault.Fault.{Fault}
@@ -12,7 +12,6 @@ use Rattle.query_names.specs.Readings.{holds}
 use Rattle.query_names.specs.declared.scope.ScopeSource.{ScopeSource}
 use Rattle.query_terms.specs.Outcome.{AnswersBy}
 use Rattle.query_terms.specs.Terms.{Term}
-use Rattle.query_terms.specs.Values.{Row}
 use Rattle.row_change.specs.Changes.{Outer}
 use Rattle.trigger.specs.Binding.{when_faults}
 use Rattle.trigger.specs.Triggers.{when_holds}

@@ -1,5 +1,5 @@
 -- What is known of the names of a change whose names were looked up.
-use Rattle.std.proofs.Common.{◌≡◌, refl, sym, ap, subst, ◌∙◌, ℕ, suc, Bool, true, false, List, [], ◌∷◌, ◌++◌, map, length, Option, Some, None}
+use Rattle.std.proofs.Common.{◌≡◌, refl, sym, ap, subst, ◌∙◌, ℕ, Bool, false, List, [], ◌∷◌, ◌++◌, map, length, Option, Some, None}
 use Rattle.std.specs.List.{AllByRecursion, list_any}
 use Rattle.std.specs.FinMap.Entries.{find}
 use Rattle.sqlval.specs.Names.{folded}
@@ -13,7 +13,7 @@ use Rattle.sql_syntax.specs.declared.change.InsertSource.{InsertSource}
 use Rattle.sql_syntax.specs.declared.change.InsertSource.TheVariants as source
 use Rattle.sql_syntax.specs.declared.query.Join.{Join}
 use Rattle.sql_syntax.specs.declared.query.Query.{Query}
-use Rattle.catalog.specs.Database.{Database, Name, Object, View, name_order, object}
+use Rattle.catalog.specs.Database.{Database, Name, name_order, object}
 use Rattle.std.specs.Prelude.{⊤, Ok, not, ◌&&◌, ◌==◌, if◌then◌else◌}
 use Rattle.sql_syntax.specs.Tree.{Tree}
 use Rattle.query_names.specs.Readings.{rows_over}
@@ -29,11 +29,10 @@ use Rattle.query_names.specs.declared.scope.ScopeColumn.{ScopeColumn}
 use Rattle.query_names.specs.declared.scope.ScopeSource.{ScopeSource}
 use Rattle.query_names.proofs.ColumnNames.{folded_twice}
 use Rattle.query_terms.specs.Terms.{Term}
-use Rattle.query_terms.specs.Values.{Row}
 use Rattle.row_change.specs.Changes.{Deletes, Given, GivenQuery, GivenRows, Inserts, Outer, Resolved, Updates, insert_places, resolve_change, resolve_given, resolve_sets, target, wanted}
 use Rattle.row_change.specs.RowChanges.{Deleting, Event, Inserting, Updating}
 use Rattle.trigger.specs.Binding.{aim_of}
-use Rattle.trigger_names.specs.Resolved.{bound_given, names_set}
+use Rattle.trigger_names.specs.Resolved.{bound_given}
 use Rattle.trigger_names.specs.declared.giving.BoundRows.{BoundRows}
 use Rattle.trigger_names.specs.declared.giving.BoundRows.TheVariants as rows
 use Rattle.executor_programs.specs.Querying.{AreKnownSources, KnowsGiven}
@@ -142,7 +141,7 @@ same_look db a b same =
 pub same_object : (db : Database) (a b : Name) → folded a ≡ folded b → object db a ≡ object db b
 same_object db a b same = ap (λ (m : Name). find name_order m db) same
 
-sources_in : (db : Database) (outer : List ScopeSource) (q : Query) → faults (resolve_query (look_up db) outer q) ≡ []
+pub sources_in : (db : Database) (outer : List ScopeSource) (q : Query) → faults (resolve_query (look_up db) outer q) ≡ []
     → AreKnownSources db (meant (resolve_query (look_up db) outer q)).sources
 sources_in db outer q h =
     subst (AllByRecursion (λ (s : Name × Condition). IsKnownIn 64 db s.0)) (sym (query_sources (look_up db) outer q))

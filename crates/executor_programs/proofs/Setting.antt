@@ -1,12 +1,11 @@
 -- Changes that set triggers off: the names are looked up first, and then the programs run.
-use Rattle.std.proofs.Common.{◌≡◌, ◌⊎◌, inl, inr, refl, sym, ap, subst, ◌∙◌, ℕ, ℤ, Bool, true, false, ◌||◌, List, [], ◌∷◌, ◌++◌, append_assoc, length, Ok, Err, arith}
+use Rattle.std.proofs.Common.{◌≡◌, ◌⊎◌, inl, inr, refl, sym, ap, subst, ◌∙◌, ℕ, Bool, true, false, ◌||◌, List, [], ◌∷◌, ◌++◌, append_assoc, length, Ok, Err, arith}
 use Rattle.std.proofs.lemmas.List.{length-map}
-use Rattle.std.specs.Prelude.{⊤, Contains, Result, IsErrAnd, MatchResult}
+use Rattle.std.specs.Prelude.{⊤, Result, IsErrAnd, MatchResult}
 use Rattle.std.specs.List.{AllByRecursion, list_any}
 use Rattle.sqlval.specs.Refusals.{Answer, Refusal, refusal_of}
 use Rattle.sqlval.specs.declared.fault.Fault.{Fault}
 use Rattle.sqlval.specs.declared.fault.Fault.TheVariants.{Memory}
-use Rattle.sqlval.specs.declared.value.Value.{Value}
 use Rattle.sql_syntax.specs.declared.change.Change.{Change}
 use Rattle.sql_syntax.specs.declared.statement.Statement.TheVariants as statement
 use Rattle.pages.specs.Map.{PageMap}
@@ -26,9 +25,9 @@ use Rattle.db_write.specs.Changing.{has_wide_index, is_wide}
 use Rattle.executor.specs.Changing.{HasWideIndex, IsIndexIn, IsMade}
 use Rattle.executor.specs.Works.{Reaches, RefusesWith, of_answer}
 use Rattle.executor.proofs.FoundTables.{indexes_listed}
-use Rattle.executor_programs.specs.Making.{IsRefusedStatement, MakesBySetting}
+use Rattle.executor_programs.specs.Making.{IsRefusedStatement}
 use Rattle.executor_programs.specs.Outer.{Shows}
-use Rattle.executor_programs.specs.Running.{IsRunRefusal, KnowsNames, Runs}
+use Rattle.executor_programs.specs.Running.{IsRunRefusal, KnowsNames}
 use Rattle.executor_programs.specs.declared.outer.OuterRows.{OuterRows}
 use Rattle.executor_programs.proofs.Folding.{RunsTo}
 

@@ -1,5 +1,5 @@
 -- A change whose names are known: what looking them up answers, and the triggers around each row.
-use Rattle.std.proofs.Common.{◌≡◌, inl, inr, refl, sym, ap, subst, ◌∙◌, ℕ, List, [], ◌∷◌, Bool, Option, Some, None, length, arith}
+use Rattle.std.proofs.Common.{◌≡◌, inl, inr, refl, sym, ap, subst, ◌∙◌, ℕ, List, [], ◌∷◌, Bool, arith}
 use Rattle.std.specs.List.{Contains, find}
 use Rattle.std.specs.Str.{bytes_eq}
 use Rattle.sqlval.specs.Faults.{IsOutside}
@@ -9,7 +9,6 @@ use Rattle.sqlval.specs.declared.fault.Fault.{Fault}
 use Rattle.sql_syntax.specs.declared.change.Change.{Change}
 use Rattle.catalog.specs.Database.{Database, Name}
 use Rattle.catalog.specs.Listed.{Listed, table_named}
-use Rattle.catalog.specs.declared.tables.Table.{Table}
 use Rattle.pages.specs.Map.{PageMap}
 use Rattle.query_names.specs.Bound.{IsFaultOf}
 use Rattle.query_names.specs.Checked.{Checked, Meant, faults, good, known_map, meant}

@@ -1,42 +1,30 @@
 -- What a change of a view whose names were looked up comes to, and that it is refused where no trigger stands in its place.
-use Rattle.std.proofs.Common.{◌≡◌, ◌⊎◌, inl, inr, refl, sym, ap, subst, ◌∙◌, ℕ, zero, suc, ◌≤◌, Bool, true, false, List, [], ◌∷◌, ◌++◌, map, length, zip, Option, Some, None, Ok, Err, if◌then◌else◌}
-use Rattle.std.specs.Prelude.{Result, ⊤, ℤ, nat_lt, Vec, MatchOption, IfOk}
+use Rattle.std.proofs.Common.{◌≡◌, refl, sym, ap, subst, ◌∙◌, ℕ, zero, suc, ◌≤◌, Bool, true, false, List, [], ◌∷◌, ◌++◌, map, length, zip, Option, Some, None, Ok, Err, if◌then◌else◌}
+use Rattle.std.specs.Prelude.{nat_lt}
 use Rattle.std.specs.List.{AllByRecursion}
-use Rattle.std.specs.Result.{IsErrAnd}
 use Rattle.std.specs.declared.alloc.Global.{Global}
 use Rattle.smallvec.specs.SmallVec.{SmallVec}
-use Rattle.sqlval.specs.Faults.{IsOrMemory, IsOutside}
-use Rattle.sqlval.specs.Refusals.{Answer, Refusal, ◌then◌, ViewReadOnly, fold_answer, refusal_of}
+use Rattle.sqlval.specs.Refusals.{Answer, ◌then◌, ViewReadOnly, fold_answer, refusal_of}
 use Rattle.sqlval.specs.declared.fault.Fault.{Fault}
-use Rattle.sqlval.specs.declared.fault.Fault.TheVariants.{Memory}
-use Rattle.sqlval.specs.declared.fault.Fault.TheVariants as fault
 use Rattle.sqlval.specs.declared.value.Value.{Value}
 use Rattle.sql_syntax.specs.declared.change.Change.{Change}
-use Rattle.sql_syntax.specs.declared.create.TriggerTime.TheVariants.{Before, InsteadOf}
-use Rattle.catalog.specs.Database.{ATable, ATrigger, AView, Database, Name, Object, object}
-use Rattle.catalog.specs.Laws.{FindsListed, IsIndexOrNone, IsNoSource, IsNoTable}
-use Rattle.catalog.specs.Listed.{Listed, as_view, table_named, trigger_named, view_named, with_rows}
+use Rattle.sql_syntax.specs.declared.create.TriggerTime.TheVariants.{InsteadOf}
+use Rattle.catalog.specs.Database.{Database, Name, object}
+use Rattle.catalog.specs.Laws.{FindsListed}
+use Rattle.catalog.specs.Listed.{Listed, table_named}
 use Rattle.catalog.specs.declared.tables.Trigger.{Trigger}
-use Rattle.catalog.specs.declared.tables.View.{View}
-use Rattle.catalog.specs.declared.tables.Table.{Table}
-use Rattle.query_names.specs.Checked.{Checked, Meant, faults, known_then, meant}
-use Rattle.query_names.specs.Known.{columns_in}
+use Rattle.query_names.specs.Checked.{Checked, Meant, meant}
 use Rattle.query_names.specs.Laws.{KnowsListed}
 use Rattle.query_names.specs.Readings.{env_of, values}
-use Rattle.query_names.specs.Views.{all_rows, look_up}
 use Rattle.query_names.specs.declared.scope.ScopeColumn.{ScopeColumn}
 use Rattle.query_terms.specs.Terms.{Term}
 use Rattle.query_terms.specs.Values.{Row}
-use Rattle.query_answer.specs.Answers.{HaveWidth}
-use Rattle.row_change.specs.Agreement.{IsSetFor}
-use Rattle.row_change.specs.Changes.{Deletes, Given, Inserts, Outer, Resolved, Updates, resolve_change}
+use Rattle.row_change.specs.Changes.{Deletes, Inserts, Outer, Resolved, Updates, resolve_change}
 use Rattle.row_change.specs.Constraints.{demand, set_values}
-use Rattle.row_change.specs.RowChanges.{Deleting, Event, Fire, Inserting, Updating, delete_row, insert_row, update_row}
+use Rattle.row_change.specs.RowChanges.{Deleting, Event, Inserting, Updating}
 use Rattle.row_scan.specs.Rows.{values_of}
-use Rattle.row_scan.specs.Trees.{AnswersOrFails}
 use Rattle.trigger.specs.Binding.{aim_of}
-use Rattle.trigger.specs.Effects as effects
-use Rattle.trigger.specs.Effects.{change_with, chosen, chosen_rows, given_rows, id_of, instead, is_table, nulls, on_view, run_resolved, scope_of, view_row}
+use Rattle.trigger.specs.Effects.{change_with, chosen_rows, given_rows, instead, is_table, nulls, on_view, run_resolved, scope_of, view_row}
 use Rattle.trigger.specs.Triggers.{Runner, fired, triggers_at}
 use Rattle.trigger_names.specs.Resolved.{bound_given, names_set, resolved_of}
 use Rattle.trigger_names.specs.declared.changes.BoundChange.{BoundChange}
@@ -44,16 +32,12 @@ use Rattle.trigger_names.specs.declared.changes.BoundChange.TheVariants as bound
 use Rattle.trigger_names.specs.declared.giving.BoundRows.{BoundRows}
 use Rattle.db_pages.specs.Stored.{Stores}
 use Rattle.pages.specs.Map.{PageMap}
-use Rattle.executor_programs.specs.Acts.{ComesTo, IsAct, IsItemOf, IsSeenOf, IsTableAct, IsViewAct, IsWorkOf, work_done}
-use Rattle.executor_programs.specs.Rows.{columns_listed_of, firing_seen, row_changed, rows_seen, seen_changed, set_beside}
+use Rattle.executor_programs.specs.Acts.{IsSeenOf, IsViewAct}
+use Rattle.executor_programs.specs.Rows.{columns_listed_of, firing_seen, seen_changed}
 use Rattle.executor_programs.specs.Running.{definitions}
 use Rattle.executor_programs.specs.declared.acts.Act.{Act}
-use Rattle.executor_programs.specs.declared.acts.TableItem.{TableItem}
-use Rattle.executor_programs.specs.declared.acts.TableItem.TheVariants as item
 use Rattle.executor_programs.specs.declared.acts.ViewItem.{ViewItem}
 use Rattle.executor_programs.specs.declared.acts.ViewItem.TheVariants as seen_item
-use Rattle.executor_programs.specs.declared.acts.Work.{Work}
-use Rattle.executor_programs.specs.declared.acts.Work.TheVariants as work
 use Rattle.std.proofs.Common.{arith}
 use Rattle.std.proofs.lemmas.Bool.Decides.{nat_tests}
 use Rattle.std.specs.declared.rc.Rc.{Rc}

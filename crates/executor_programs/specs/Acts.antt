@@ -1,5 +1,5 @@
 -- A change whose names are looked up, with all rows that it is about (SQL As Understood By SQLite, "INSERT", "UPDATE", "DELETE", "CREATE TRIGGER").
-use Rattle.std.specs.Prelude.{◌≡◌, ◌⊎◌, ⊤, ℕ, Bool, false, true, List, [], length, map, Some, None, Ok, Err, Result, MatchResult}
+use Rattle.std.specs.Prelude.{◌≡◌, ◌⊎◌, ℕ, Bool, false, true, List, [], length, Some, None, Err, Result, MatchResult}
 use Rattle.std.specs.List.{AllByRecursion}
 use Rattle.sqlval.specs.Faults.{IsOutside}
 use Rattle.sqlval.specs.Refusals.{Answer, fold_answer, refusal_of}

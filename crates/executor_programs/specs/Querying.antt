@@ -1,6 +1,6 @@
 -- A query beside NEW and OLD, and the rows that an INSERT gives (SQL As Understood By SQLite, "SELECT", "INSERT", "CREATE TRIGGER").
-use Rattle.std.specs.Prelude.{◌≡◌, ⊤, ℕ, Bool, ◌==◌, ◌+◌, List, ◌++◌, drop, length, map, take, Result, Ok, MatchResult}
-use Rattle.std.specs.List.{AllByRecursion, list_all}
+use Rattle.std.specs.Prelude.{◌≡◌, ⊤, ℕ, ◌+◌, List, ◌++◌, drop, length, map, take, Result, Ok, MatchResult}
+use Rattle.std.specs.List.{AllByRecursion}
 use Rattle.sqlval.specs.Refusals.{Answer, all_answers}
 use Rattle.sqlval.specs.declared.fault.Fault.{Fault}
 use Rattle.catalog.specs.Database.{Database, Name}

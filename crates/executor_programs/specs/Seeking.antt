@@ -1,11 +1,13 @@
 -- What a condition asks of its table's columns beside NEW and OLD, and that the other rows needn't be read (SQL As Understood By SQLite,
 -- "CREATE TRIGGER"; The SQLite Query Optimizer Overview, "WHERE Clause Analysis").
-use Rattle.std.specs.Prelude.{◌≡◌, ℕ, true, List, [], ◌∷◌, ◌++◌, length, Option, Some, Ok, Result, MatchResult, if◌then◌else◌}
+use Rattle.std.specs.Prelude.{◌≡◌, ℕ, Bool, true, false, List, [], ◌∷◌, ◌++◌, length, Option, Some, Ok, Result, MatchResult, if◌then◌else◌}
 use Rattle.sqlval.specs.Refusals.{◌then◌}
 use Rattle.sqlval.specs.declared.affinity.Affinity.{Affinity}
+use Rattle.sqlval.specs.declared.affinity.Affinity.TheVariants as kind
 use Rattle.sqlval.specs.declared.collation.Collation.{Collation}
 use Rattle.sqlval.specs.declared.fault.Fault.{Fault}
 use Rattle.sqlval.specs.declared.value.Value.{Value}
+use Rattle.sqlval.specs.declared.value.Value.TheVariants.{Int, Text}
 use Rattle.catalog.specs.Database.{Database, Name}
 use Rattle.catalog.specs.declared.tables.Index.{Index}
 use Rattle.query_names.specs.Calm.{is_calm}
@@ -20,6 +22,13 @@ use Rattle.query_terms.specs.declared.tree.Place.{Place}
 use Rattle.row_change.specs.Changes.{Outer}
 use Rattle.executor.specs.Reading.{IsRefusalOf}
 use Rattle.executor_programs.specs.Choosing.{rows_chosen}
+
+-- whether a value stays as it is where a column of this affinity is compared with it
+abbrev pub is_kept_beside : Option Affinity → Value → Bool
+is_kept_beside (Some kind.Text) (Int n) = false
+is_kept_beside (Some kind.Integer) (Text t) = false
+is_kept_beside (Some kind.Numeric) (Text t) = false
+is_kept_beside a v = true
 
 -- Beside these rows a column of this affinity is compared with the literal as with the other side.
 pub record IsSettledSide (beside : List Row) (own : Option Affinity) (side literal : Term) : Type 0 where

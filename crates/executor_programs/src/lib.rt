@@ -11,5 +11,6 @@ mod running;
 mod seeking;
 mod seen;
 mod values;
+mod work;
 
 pub use changes::{Write, change, change_rows, write_of};

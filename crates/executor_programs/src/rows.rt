@@ -71,6 +71,13 @@ fn source_row(alloc: Global, row: &TableRow) -> R<SourceRow>
     Ok(SourceRow::made(Value::Int(row.rowid), values))
 }
 
+/// A row of a table as a source's, with the values that it had.
+fn made_row(row: TableRow) -> SourceRow
+    ensures { result ≡ stored.row_of row.rowid row.values.items }
+{
+    SourceRow::made(Value::Int(row.rowid), Many::from_vec(row.values))
+}
+
 /// A row of an INSERT before its triggers run. (`RealRefused`, `Memory`.)
 fn begin_insert(alloc: Global, table: &Table, act: &Act, given: &Row) -> R<Option<Begun>>
     ensures begun { (pages : PageMap) (size : ℕ) (l : Listed) (o : Outside) (c : Text) → Begins pages size l o c table.now act.now
@@ -287,7 +294,7 @@ fn finish_insert<P: WritePages>(
 {
     listed_tables_are_found();
     let row = insert_row(alloc, pages, table, &act.by_column, given)?;
-    both_rows(alloc, Some(source_row(alloc, &row)?), None)
+    both_rows(alloc, Some(made_row(row)), None)
 }
 
 /// Gives the row the values that SET makes of it. (What `expect_unchanged` and `set_row` refuse.)
@@ -309,7 +316,7 @@ fn finish_update<P: WritePages>(
     listed_tables_are_found();
     expect_unchanged(alloc, pages, table, old)?;
     let row = set_row(alloc, pages, table, old.rowid, values)?;
-    let new = source_row(alloc, &row)?;
+    let new = made_row(row);
     both_rows(alloc, Some(new), Some(source_row(alloc, old)?))
 }
 

@@ -21,11 +21,12 @@ ghost use Rattle.executor_programs.specs.Outer.{Shows};
 ghost use Rattle.executor_programs.specs.Rows.{columns_listed_of, row_changed, seen_changed};
 ghost use Rattle.executor_programs.specs.Running.{KnowsNames, KnowsBody, KnowsEach, KnowsQuery, KnowsRows, ReadsOnly, Runs, definitions, running_names};
 
-use crate::acts::{Act, TableItem, ViewItem, Work, work_of};
+use crate::acts::{Act, TableItem, ViewItem, Work};
 use crate::outer::{OuterRows, is_true_beside};
 use crate::querying::queried_rows;
 use crate::rows::{begin, finish, rows_before};
 use crate::seen::rows_seen;
+use crate::work::work_of;
 use catalog::{Catalog, Table, Trigger};
 use pages::WritePages;
 use query_bind::{bind_filter, bind_reading_beside};

@@ -15,7 +15,7 @@ ghost use Rattle.query_terms.specs.declared.tree.TwoSided.TheVariants.{And as bo
 ghost use Rattle.row_change.specs.Changes.{Outer};
 ghost use Rattle.db_pages.specs.Stored.{Stores};
 ghost use Rattle.executor_programs.specs.Outer.{Shows};
-ghost use Rattle.executor_programs.specs.Seeking.{AreEnoughBeside, FollowsBeside, IsSettledSide, SeeksBeside};
+ghost use Rattle.executor_programs.specs.Seeking.{AreEnoughBeside, FollowsBeside, IsSettledSide, SeeksBeside, is_kept_beside};
 
 use crate::outer::{OuterRows, env_at, first_places};
 use catalog::{Catalog, Table};
@@ -39,7 +39,8 @@ fn same_affinity(left: Option<Affinity>, right: Option<Affinity>) -> bool
 
 /// Whether a value stays as it is where a column of this affinity is compared with it.
 fn stays_beside(affinity: Option<Affinity>, value: &Value) -> bool
-    ensures { result ≡ true → converted (conversion None affinity) value.now ≡ Ok value.now }
+    ensures kind { result ≡ is_kept_beside affinity value.now }
+    ensures same { result ≡ true → converted (conversion None affinity) value.now ≡ Ok value.now }
 {
     match value {
         Value::Null | Value::Blob(_) => true,

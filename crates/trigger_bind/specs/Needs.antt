@@ -16,7 +16,7 @@ unneeded (false ∷ bs) = unneeded bs + 1
 
 -- how much there may still be to do
 abbrev pub cost : Needs → ℕ
-cost n = 2 * unneeded n.needed.items + length n.queue.items
+cost n = unneeded n.needed.items + length n.queue.items
 
 -- The places of a kind are noted, and no others: those that are new are in the queue.
 pub record Notes (Is : ℕ → Type 0) (old new : Needs) : Type 0 where

@@ -71,6 +71,8 @@ fn bind_values_given(
 ) -> R<BoundRows>
     ensures named { (db : Database) (held : List Row) → NamesBy bound_given
         (resolve_given db (record { scope = outer.now; rows = held }) (Some count) (text.Rows rows.now)) result }
+    ensures counted { list_any (λ row. not (count == length row)) rows.now ≡ true
+        → IfErr result (λ fault. fault ≡ Fault.Misuse Misuse.Count) }
     ensures wide { IfOk result (λ rows. gives_width count rows ≡ true) }
     ensures not_disk { IfErr result IsNotDiskFault }
 {

@@ -14,6 +14,6 @@ returns-in_err-row-clause-finished g c = λ l change i rowid kept told same db f
 pub returns-clause-finished : goal.returns-clause-finished
 returns-clause-finished g c = λ l change i rowid kept told same db f stored tabled for between.
     (let gs = g.P.Pages in
-    both_done l (finished change i f db) (IsFinished (gs.map c.insert_row.new.pages) (gs.limits (gs.below c.args.pages.now)).page l change (finished change i f db)) (both_rows (Some c.in_ok-source_row.field-0) None) c.both_rows.result c.both_rows.ensures
+    both_done l (finished change i f db) (IsFinished (gs.map c.insert_row.new.pages) (gs.limits (gs.below c.args.pages.now)).page l change (finished change i f db)) (both_rows (Some c.made_row.result) None) c.both_rows.result c.both_rows.ensures
     (λ rows is. insert_done c.listed_tables_are_found.ensures.finds _ _ _ l change db f c.args.table.now c.args.act.now i rowid kept c.deref.result.now c.args.given.now c.in_ok-row.row rows c.deref.ensures.value same stored tabled for between
-    (c.in_ok-row.ensures.inserted told) (is ∙ ap (λ (r : Row). both_rows (Some r) None) c.in_ok-source_row.ensures)))
+    (c.in_ok-row.ensures.inserted told) (is ∙ ap (λ (r : Row). both_rows (Some r) None) c.made_row.ensures)))

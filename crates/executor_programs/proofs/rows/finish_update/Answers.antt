@@ -28,10 +28,10 @@ returns-clause-finished g c = λ l change act i rowid kept told same db f stored
     (let gs = g.P.Pages in
     let fits : SFits w64 c.args.old.now.rowid = search rules in
     let stays = c.in_ok-expect_unchanged.ensures.stays in
-    both_done l (finished change i f db) (IsFinished (gs.map c.set_row.new.pages) (gs.limits (gs.below c.args.pages.now)).page l change (finished change i f db)) (both_rows (Some c.in_ok-new.new) (Some c.in_ok-source_row.field-0)) c.both_rows.result
+    both_done l (finished change i f db) (IsFinished (gs.map c.set_row.new.pages) (gs.limits (gs.below c.args.pages.now)).page l change (finished change i f db)) (both_rows (Some c.made_row-new.result) (Some c.in_ok-source_row.field-0)) c.both_rows.result
     c.both_rows.ensures
     (λ rows is. update_done c.listed_tables_are_found.ensures.finds _ _ l change db f c.args.table.now act c.args.old.now rowid kept stored tabled (gs.map c.set_row.new.pages) i c.args.values.now c.in_ok-row.row rows same for between
     (c.in_ok-expect_unchanged.ensures.expected told)
     (read_before gs.below gs.tells gs.limits gs.map (λ m s. SetsIn m (gs.map c.set_row.new.pages) s c.args.table.now c.args.old.now.rowid c.args.values.now (Ok c.in_ok-row.row)) c.args.pages.now c.expect_unchanged.new.pages stays.kept stays.same
     (subst (λ (n : ℤ). IsTrue (gs.tells (gs.below c.expect_unchanged.new.pages)) → SetsIn (gs.map c.expect_unchanged.new.pages) (gs.map c.set_row.new.pages) (gs.limits (gs.below c.expect_unchanged.new.pages)).page c.args.table.now n c.args.values.now (Ok c.in_ok-row.row))
-    (to_z-of_z w64 c.args.old.now.rowid fits) c.in_ok-row.ensures.set) told) (is ∙ λ j. both_rows (Some (c.in_ok-new.ensures j)) (Some (c.in_ok-source_row.ensures j)))))
+    (to_z-of_z w64 c.args.old.now.rowid fits) c.in_ok-row.ensures.set) told) (is ∙ λ j. both_rows (Some (c.made_row-new.ensures j)) (Some (c.in_ok-source_row.ensures j)))))

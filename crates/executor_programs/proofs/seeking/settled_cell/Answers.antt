@@ -15,4 +15,4 @@ returns-clause-settled c = λ seen shows before collation.
     ∙ ap (λ env. cell env c.args.source c.args.place)
     (c.env_at.ensures ∙ ap env_of (shown c.args.outer.rows.now seen.rows c.deref.result.now shows.rows (c.deref.ensures.value ∙ c.in_ok-picked.ensures)))) in
     cell_settled seen.rows c.args.own c.in_ok-value.value c.literal.result c.literal.ensures.valued c.literal.ensures.plain c.literal.ensures.bare c.args.source c.args.place collation
-    (subst (λ (n : ℕ). c.args.source < n) (sym (counted_outer c.args.outer.rows.now seen.rows shows.rows)) before) is (c.stays_beside.ensures stays))
+    (subst (λ (n : ℕ). c.args.source < n) (sym (counted_outer c.args.outer.rows.now seen.rows shows.rows)) before) is (c.stays_beside.ensures.same stays))

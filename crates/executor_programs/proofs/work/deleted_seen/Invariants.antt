@@ -1,0 +1,6 @@
+use Rattle.std.proofs.Common.{◌≡◌, map}
+use Rattle.executor_programs.specs.declared.acts.ViewItem.TheVariants as view_item
+use Rattle.executor_programs.proofs.work.deleted_seen.Given as goal
+
+abbrev pub invariant-rows : goal.invariant-rows
+invariant-rows l = l.items.items ≡ map view_item.Delete l.yielded
