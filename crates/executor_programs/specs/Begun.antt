@@ -116,6 +116,20 @@ abbrev pub given_in : TableItem → List Value
 given_in (item.Insert given) = given.items
 given_in _ = []
 
+-- An INSERT of a row of these values is made, whichever change and row before it these are; or it is refused.
+abbrev pub FinishesInsert : PageMap → PageMap → ℕ → Table → Act → List Value → Result (Vec (List Row)) Fault → Type 0
+FinishesInsert old new size table act given result = (l : Listed) (c : Change) (i : TableItem) (rowid : Value) (values : Values) → given_in i ≡ given
+    → Finishes old new size l c table act i (begin.Insert rowid values) result
+
+-- So is an UPDATE of a row to these values.
+abbrev pub FinishesUpdate : PageMap → PageMap → ℕ → Table → stored.TableRow → List Value → Result (Vec (List Row)) Fault → Type 0
+FinishesUpdate old new size table row values result = (l : Listed) (c : Change) (act : Act) (i : TableItem) (rowid : Value) (given : Values) → given.items ≡ values
+    → Finishes old new size l c table act i (begin.Update row rowid given) result
+
+-- So is a DELETE of a row.
+abbrev pub FinishesDelete : PageMap → PageMap → ℕ → Table → stored.TableRow → Result (Vec (List Row)) Fault → Type 0
+FinishesDelete old new size table row result = (l : Listed) (c : Change) (act : Act) (i : TableItem) → Finishes old new size l c table act i (begin.Delete row) result
+
 -- NEW and OLD of a row of a view, each with its row; or they are refused as SET's expressions are
 abbrev pub SeesRows : Outer → List ScopeColumn → Act → ViewItem → Result (Vec (List Row)) Fault → Type 0
 SeesRows seen cs act i result = AnswersBy (λ rows. rows.items) (rows_seen seen cs act i then λ p. Ok (both_rows p.0 p.1)) result

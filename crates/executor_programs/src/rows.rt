@@ -14,12 +14,10 @@ ghost use Rattle.row_change.specs.Constraints as stored;
 ghost use Rattle.row_change.specs.Inserting as inserting;
 ghost use Rattle.row_change.specs.NewRows.{row_of as pair_of};
 ghost use Rattle.row_change.specs.RowChanges.{Firing, same_row};
-ghost use Rattle.executor_programs.specs.Begun.{Begins, BeginsSet, ExpectsUnchanged, Finishes, IsBegunAt, Values, both_rows as rows_of_both, given_in, shown};
+ghost use Rattle.executor_programs.specs.Begun.{Begins, BeginsSet, ExpectsUnchanged, Finishes, FinishesDelete, FinishesInsert, FinishesUpdate, IsBegunAt, both_rows as rows_of_both, given_in, shown};
 ghost use Rattle.executor_programs.specs.declared.acts.Act.{Act as Doing};
-ghost use Rattle.executor_programs.specs.declared.acts.TableItem.{TableItem as Item};
 ghost use Rattle.executor_programs.specs.declared.acts.TableItem.TheVariants as work;
 ghost use Rattle.executor_programs.specs.declared.outer.OuterRows.{OuterRows as Outside};
-ghost use Rattle.executor_programs.specs.declared.rows.Begun.TheVariants as stage;
 
 use crate::acts::{Act, TableItem};
 use crate::outer::{OuterRows, only_row};
@@ -284,10 +282,9 @@ fn finish_insert<P: WritePages>(
     act: &Act,
     given: &[Value],
 ) -> R<Vec<Many<SourceRow>>>
-    ensures finished { (l : Listed) (c : Text) (i : Item) (rowid : Stored) (values : Values) → IsTrue (P.Pages.tells (P.Pages.below pages.old))
-        → given_in i ≡ given.now
-        → Finishes (P.Pages.map pages.old) (P.Pages.map pages.new) (P.Pages.limits (P.Pages.below pages.old)).page
-        l c table.now act.now i (stage.Insert rowid values) result }
+    ensures finished { IsTrue (P.Pages.tells (P.Pages.below pages.old))
+        → FinishesInsert (P.Pages.map pages.old) (P.Pages.map pages.new)
+        (P.Pages.limits (P.Pages.below pages.old)).page table.now act.now given.now result }
     ensures kept { P.Pages.below pages.new ≡ P.Pages.below pages.old }
     ensures causes { Causes result (P.Pages.failures pages.old) (P.Pages.failures pages.new)
         (P.Pages.count pages.new ≡ (P.Pages.limits (P.Pages.below pages.new)).most) }
@@ -305,10 +302,9 @@ fn finish_update<P: WritePages>(
     old: &TableRow,
     values: &[Value],
 ) -> R<Vec<Many<SourceRow>>>
-    ensures finished { (l : Listed) (c : Text) (act : Doing) (i : Item) (rowid : Stored) (given : Values) → IsTrue (P.Pages.tells (P.Pages.below pages.old))
-        → given.items ≡ values.now
-        → Finishes (P.Pages.map pages.old) (P.Pages.map pages.new) (P.Pages.limits (P.Pages.below pages.old)).page
-        l c table.now act i (stage.Update old.now rowid given) result }
+    ensures finished { IsTrue (P.Pages.tells (P.Pages.below pages.old))
+        → FinishesUpdate (P.Pages.map pages.old) (P.Pages.map pages.new)
+        (P.Pages.limits (P.Pages.below pages.old)).page table.now old.now values.now result }
     ensures kept { P.Pages.below pages.new ≡ P.Pages.below pages.old }
     ensures causes { Causes result (P.Pages.failures pages.old) (P.Pages.failures pages.new)
         (P.Pages.count pages.new ≡ (P.Pages.limits (P.Pages.below pages.new)).most) }
@@ -327,9 +323,9 @@ fn finish_delete<P: WritePages>(
     table: &Table,
     old: &TableRow,
 ) -> R<Vec<Many<SourceRow>>>
-    ensures finished { (l : Listed) (c : Text) (act : Doing) (i : Item) → IsTrue (P.Pages.tells (P.Pages.below pages.old))
-        → Finishes (P.Pages.map pages.old) (P.Pages.map pages.new) (P.Pages.limits (P.Pages.below pages.old)).page
-        l c table.now act i (stage.Delete old.now) result }
+    ensures finished { IsTrue (P.Pages.tells (P.Pages.below pages.old))
+        → FinishesDelete (P.Pages.map pages.old) (P.Pages.map pages.new)
+        (P.Pages.limits (P.Pages.below pages.old)).page table.now old.now result }
     ensures kept { P.Pages.below pages.new ≡ P.Pages.below pages.old }
     ensures causes { Causes result (P.Pages.failures pages.old) (P.Pages.failures pages.new)
         (P.Pages.count pages.new ≡ (P.Pages.limits (P.Pages.below pages.new)).most) }

@@ -9,12 +9,12 @@ use Rattle.executor_programs.proofs.Finishing.{both_done, delete_changed, delete
 use Rattle.executor_programs.proofs.rows.finish_delete.Goals as goal
 
 pub returns-in_err-expect_unchanged-clause-finished : goal.returns-in_err-expect_unchanged-clause-finished
-returns-in_err-expect_unchanged-clause-finished g c = λ l change act i told db f stored tabled for between.
+returns-in_err-expect_unchanged-clause-finished g c = λ told l change act i db f stored tabled for between.
     run_refused _ l (finished change i f db) c.from_residual.result c.in_err-expect_unchanged.field-0.0 c.from_residual.ensures.1
     (delete_changed c.listed_tables_are_found.ensures.finds _ _ l change db f c.args.table.now act c.args.old.now stored tabled i c.in_err-expect_unchanged.field-0.0 between (c.in_err-expect_unchanged.ensures.expected told))
 
 pub returns-in_err-take_row-clause-finished : goal.returns-in_err-take_row-clause-finished
-returns-in_err-take_row-clause-finished g c = λ l change act i told db f stored tabled for between.
+returns-in_err-take_row-clause-finished g c = λ told l change act i db f stored tabled for between.
     (let gs = g.P.Pages in
     let fits : SFits w64 c.args.old.now.rowid = search rules in
     let stays = c.in_ok-expect_unchanged.ensures.stays in
@@ -25,7 +25,7 @@ returns-in_err-take_row-clause-finished g c = λ l change act i told db f stored
     (to_z-of_z w64 c.args.old.now.rowid fits) c.in_err-take_row.ensures.taken) told)))
 
 pub returns-clause-finished : goal.returns-clause-finished
-returns-clause-finished g c = λ l change act i told db f stored tabled for between.
+returns-clause-finished g c = λ told l change act i db f stored tabled for between.
     (let gs = g.P.Pages in
     let fits : SFits w64 c.args.old.now.rowid = search rules in
     let stays = c.in_ok-expect_unchanged.ensures.stays in

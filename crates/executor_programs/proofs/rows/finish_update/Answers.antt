@@ -8,12 +8,12 @@ use Rattle.executor_programs.proofs.Finishing.{both_done, read_before, run_refus
 use Rattle.executor_programs.proofs.rows.finish_update.Goals as goal
 
 pub returns-in_err-expect_unchanged-clause-finished : goal.returns-in_err-expect_unchanged-clause-finished
-returns-in_err-expect_unchanged-clause-finished g c = λ l change act i rowid kept told same db f stored tabled for between.
+returns-in_err-expect_unchanged-clause-finished g c = λ told l change act i rowid kept same db f stored tabled for between.
     run_refused _ l (finished change i f db) c.from_residual.result c.in_err-expect_unchanged.field-0.0 c.from_residual.ensures.1
     (update_changed c.listed_tables_are_found.ensures.finds _ _ l change db f c.args.table.now act c.args.old.now rowid kept stored tabled i c.in_err-expect_unchanged.field-0.0 for between (c.in_err-expect_unchanged.ensures.expected told))
 
 pub returns-in_err-row-clause-finished : goal.returns-in_err-row-clause-finished
-returns-in_err-row-clause-finished g c = λ l change act i rowid kept told same db f stored tabled for between.
+returns-in_err-row-clause-finished g c = λ told l change act i rowid kept same db f stored tabled for between.
     (let gs = g.P.Pages in
     let fits : SFits w64 c.args.old.now.rowid = search rules in
     let stays = c.in_ok-expect_unchanged.ensures.stays in
@@ -24,7 +24,7 @@ returns-in_err-row-clause-finished g c = λ l change act i rowid kept told same 
     (to_z-of_z w64 c.args.old.now.rowid fits) c.in_err-row.ensures.set) told)))
 
 pub returns-clause-finished : goal.returns-clause-finished
-returns-clause-finished g c = λ l change act i rowid kept told same db f stored tabled for between.
+returns-clause-finished g c = λ told l change act i rowid kept same db f stored tabled for between.
     (let gs = g.P.Pages in
     let fits : SFits w64 c.args.old.now.rowid = search rules in
     let stays = c.in_ok-expect_unchanged.ensures.stays in
