@@ -14,3 +14,4 @@ pub mod CountLemmas
 pub mod Splices
 pub mod Rooms
 pub mod PlacingLemmas
+pub mod ReplacingLemmas

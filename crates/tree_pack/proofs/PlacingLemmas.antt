@@ -125,7 +125,7 @@ all_apart was now spans old new one low place w n below proper le behind apart =
 -- ---- the bytes of the page
 
 -- lists in other groups: up to a page's pointers, up to the place among them, and the new page
-up_to_pointers : (before header right pointers rest : List ℕ) → before ++ (header ++ (right ++ (pointers ++ rest))) ≡ (before ++ (header ++ right)) ++ (pointers ++ rest)
+pub up_to_pointers : (before header right pointers rest : List ℕ) → before ++ (header ++ (right ++ (pointers ++ rest))) ≡ (before ++ (header ++ right)) ++ (pointers ++ rest)
 up_to_pointers before header right pointers rest = simp append_assoc
 
 up_to_place : (before kind freeblock count content fragments right firsts lasts : List ℕ) → before ++ ((kind ++ (freeblock ++ (count ++ (content ++ fragments)))) ++ (right ++ (firsts ++ lasts)))
@@ -140,7 +140,7 @@ up_to_cell : (a count mine inner gap ends : List ℕ) → a ++ (count ++ (mine +
 up_to_cell a count mine inner gap ends = simp append_assoc
 
 -- the page's parts, before and after the place
-record Halves (kind : ℕ) (page : List ℕ) (start : ℕ) (right : List ℕ) (cells : List (List ℕ)) (is : IsTreePage kind page start right cells) (place : ℕ) : Type 0 where
+pub record Halves (kind : ℕ) (page : List ℕ) (start : ℕ) (right : List ℕ) (cells : List (List ℕ)) (is : IsTreePage kind page start right cells) (place : ℕ) : Type 0 where
   pub firsts : List ℕ
   pub lasts : List ℕ
   pub firsts_are : firsts ≡ flat_map pointer (take place is.spans)
@@ -149,7 +149,7 @@ record Halves (kind : ℕ) (page : List ℕ) (start : ℕ) (right : List ℕ) (c
   pub last_size : length lasts + 2 * place ≡ 2 * length cells
   pub parts : page ≡ is.before ++ (page_header kind is.freeblock (length cells) is.content is.fragments ++ (right ++ (firsts ++ (lasts ++ is.rest))))
 
-halves : (kind : ℕ) (page : List ℕ) (start : ℕ) (right : List ℕ) (cells : List (List ℕ)) (is : IsTreePage kind page start right cells) (place : ℕ) → place ≤ length cells → Halves kind page start right cells is place
+pub halves : (kind : ℕ) (page : List ℕ) (start : ℕ) (right : List ℕ) (cells : List (List ℕ)) (is : IsTreePage kind page start right cells) (place : ℕ) → place ≤ length cells → Halves kind page start right cells is place
 halves kind page start right cells is place le =
     let header = page_header kind is.freeblock (length cells) is.content is.fragments in
     let firsts = flat_map pointer (take place is.spans) in

@@ -7,3 +7,4 @@ pub mod Packing
 pub mod Splicing
 pub mod Spreading
 pub mod Placing
+pub mod Replacing

@@ -9,7 +9,7 @@ use std::alloc::{AllocError, Global};
 use tree_page::{Kind, TreePage};
 
 /// How many bytes stand between the header and the pointers.
-fn right_len(kind: Kind) -> usize
+pub(crate) fn right_len(kind: Kind) -> usize
     ensures value { result ≡ right_width kind }
     ensures small { result ≤ 4 }
 {

@@ -6,6 +6,7 @@ ghost use Rattle.tree_pack.specs.Building.{right_bytes};
 ghost use Rattle.tree_pack.specs.Splicing.{Splices, SplicesOne, Joins};
 
 use crate::place_cell;
+use crate::replacing::replace_cells;
 use crate::spreading::{Packed, pack};
 use sqlval::{Damage, Fault, R};
 use std::alloc::Global;
@@ -54,9 +55,9 @@ fn cells_around<'a>(
     Ok(all)
 }
 
-/// The page with one cell more, where no other gives way to it, and there is room without moving any.
-/// (`Memory` alone.)
-fn splice_one(
+/// The page with one cell more, where no other gives way to it, and there is room without moving any; or with cells in the places of
+/// others that are as long. (`Memory` alone.)
+fn splice_in_place(
     alloc: Global,
     page: &[u8],
     start: usize,
@@ -69,6 +70,7 @@ fn splice_one(
 {
     match cells {
         [cell] if count == 0 => place_cell(alloc, page, start, from, cell),
+        _ if count == cells.len() => replace_cells(alloc, page, start, from, cells),
         _ => Ok(None),
     }
 }
@@ -96,7 +98,7 @@ pub fn splice<'a>(
         return Err(Fault::Damaged(Damage::Cell, 0));
     }
     if tree.last_child() == right {
-        if let Some(last) = splice_one(alloc, page, start, from, count, cells)? {
+        if let Some(last) = splice_in_place(alloc, page, start, from, count, cells)? {
             return Ok(Packed {
                 pieces: Vec::new(alloc),
                 last,
