@@ -1,8 +1,8 @@
 -- New rows are written: their payloads, and their cells.
-use Rattle.std.proofs.Common.{◌≡◌, ◌≤◌, ◌+◌, ◌-◌, ℕ, ℤ, Bool, true, false, nat_le, if◌then◌else◌, IsTrue, List, [], ◌∷◌, ◌++◌, length, map, min, Option, Some, None, refl, sym, ap, subst, ◌∙◌, arith}
-use Rattle.std.proofs.lemmas.Bool.{leb-true}
+use Rattle.std.proofs.Common.{◌≡◌, ◌≤◌, ◌+◌, ◌-◌, ℕ, ℤ, Bool, true, false, nat_le, if◌then◌else◌, IsTrue, List, [], ◌∷◌, ◌++◌, length, map, take, min, inl, Option, Some, None, refl, sym, ap, subst, ◌∙◌, arith}
+use Rattle.std.proofs.lemmas.Bool.{leb-true, le-leb}
 use Rattle.std.proofs.lemmas.Bool.Decides.{nat_tests}
-use Rattle.std.proofs.lemmas.List.{append-nil, length-append, map-append}
+use Rattle.std.proofs.lemmas.List.{append-nil, length-append, map-append, take_all, drop_all}
 use Rattle.std.proofs.lemmas.List.Concat.{flat_map-append}
 use Rattle.std.specs.Global.{Vec}
 use Rattle.std.specs.List.{AllByRecursion, flat_map}
@@ -20,7 +20,7 @@ use Rattle.freelist.proofs.Causing.{causes_after}
 use Rattle.tree_overflow.specs.Calls.{IsWritten}
 use Rattle.tree_overflow.proofs.Laying.{keeps_then, same_keeps}
 use Rattle.tree_page.specs.Node.{Local, IsRowCell}
-use Rattle.tree_page.specs.Payload.{table_most, least, fitted, held_size}
+use Rattle.tree_page.specs.Payload.{table_most, least, fitted, held_size, local_size}
 use Rattle.tree_pack.specs.Building.{cell_room}
 use Rattle.tree_pack.specs.Parts.{total}
 use Rattle.tree_pack.proofs.SmallLemmas.{varint_len}
@@ -59,6 +59,23 @@ none_written m size change free are none = record {
 pub is_none : {A : Type 0} (o : Option A) → ((x : A) → o ≡ Some x → ⊥) → o ≡ None
 is_none None other = refl
 is_none (Some x) other = absurd (other x refl)
+
+-- a payload that lies whole in its cell was written there
+pub whole_written : (m : PageMap) (size : ℕ) (free payload : List ℕ) → AreFree m size free → length payload ≤ table_most size → IsWritten m m size (table_most size) free payload payload
+whole_written m size free payload are le =
+    let all : local_size size (table_most size) (length payload) ≡ length payload = rw (le-leb (length payload) (table_most size) le) refl in
+    record {
+      chain = [];
+      now_free = free;
+      is = record {
+        parts = sym (append-nil (take (local_size size (table_most size) (length payload)) payload) ∙ take_all (local_size size (table_most size) (length payload)) payload (omega (arith, all)));
+        chain = drop_all (local_size size (table_most size) (length payload)) payload (omega (arith, all));
+      };
+      has = are.has;
+      moves = none_moves m free;
+      header = same_keeps m m refl;
+      rule = inl refl;
+    }
 
 some_by : (rowid : ℤ) (payload : Option (Vec ℕ)) (bytes : Vec ℕ) → payload ≡ Some bytes
     → entry_for (record { rowid = rowid; payload = payload }) ≡ record { rowid = rowid; payload = bytes.items } ∷ []

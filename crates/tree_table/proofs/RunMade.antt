@@ -1,6 +1,6 @@
 -- What becomes of a leaf whose rows are changed, call by call.
 use Rattle.std.proofs.Common.{◌≡◌, ◌≤◌, ◌<◌, ◌+◌, ◌-◌, ◌==◌, ℕ, zero, suc, ℤ, pos, Bool, List, [], ◌∷◌, ◌++◌, append_assoc, length, map, take, drop, slice_index_or, Option, Some, None, Bor, refl, sym, ap, subst, ◌∙◌, inl, arith}
-use Rattle.std.proofs.lemmas.List.{drop_more, drop_all, append-nil, map_push}
+use Rattle.std.proofs.lemmas.List.{drop_more, drop_all, append-nil, map_push, take-append-drop}
 use Rattle.std.specs.Global.{Vec}
 use Rattle.std.specs.List.{flat_map}
 use Rattle.std.specs.Prelude.{⊤, Result, Ok, Err, MatchResult, IsErrAnd}
@@ -108,40 +108,57 @@ module _ (old : PageMap) (size number ways : ℕ) (rowid low : ℤ) (t : Leaf) (
 
 -- ---- the cells of the page, with the new ones
 
--- what was put behind up to a place
-pub record IsUpTo (cells : List (List ℕ)) (places : List ℕ) (news : List (List (List ℕ))) (from i : ℕ) (all : List (List ℕ)) : Type 0 where
+-- what was put behind up to a place, from the first one on
+pub record IsUpTo (cells : List (List ℕ)) (places : List ℕ) (news : List (List (List ℕ))) (first from i : ℕ) (all : List (List ℕ)) : Type 0 where
   pub within : from ≤ length cells
+  pub after : first ≤ from
   pub rises : AreRising from (length cells) (drop i places)
-  pub whole : all ++ exchanged from (drop i places) (drop i news) cells ≡ exchanged 0 places news cells
+  pub whole : take first cells ++ (all ++ exchanged from (drop i places) (drop i news) cells) ≡ exchanged 0 places news cells
 
-pub none_put : (cells : List (List ℕ)) (places : List ℕ) (news : List (List (List ℕ))) → AreRising 0 (length cells) places → IsUpTo cells places news 0 0 []
-none_put cells places news rise = record { within = omega arith; rises = rise; whole = refl }
+pub none_put : (cells : List (List ℕ)) (places : List ℕ) (news : List (List (List ℕ))) (first : ℕ) → first ≡ slice_index_or places 0 0 → AreRising 0 (length cells) places → IsUpTo cells places news first first 0 []
+none_put cells places news first e rise = subst (λ (n : ℕ). IsUpTo cells places news n n 0 []) (sym e) (by places news rise)
+  where
+    by : (places : List ℕ) (news : List (List (List ℕ))) → AreRising 0 (length cells) places → IsUpTo cells places news (slice_index_or places 0 0) (slice_index_or places 0 0) 0 []
+    by [] news rise = record { within = omega arith; after = omega arith; rises = tt; whole = refl }
+    by (place ∷ places) [] rise = record { within = (let lt = rise.1 in omega (arith, lt)); after = omega arith; rises = (omega arith, rise.1, rise.2); whole = take-append-drop place cells }
+    by (place ∷ places) (new ∷ news) rise =
+        let rest = new ++ exchanged (suc place) places news cells in
+        let none : place - place ≡ 0 = omega arith in
+        let plain : place - 0 ≡ place = omega arith in
+        record {
+          within = (let lt = rise.1 in omega (arith, lt));
+          after = omega arith;
+          rises = (omega arith, rise.1, rise.2);
+          whole = ap (λ (n : ℕ). take place cells ++ (take n (drop place cells) ++ rest)) none ∙ sym (ap (λ (n : ℕ). take n cells ++ rest) plain);
+        }
 
 pub next_place_is : (cells : List (List ℕ)) (places : List ℕ) (i from : ℕ) → AreRising from (length cells) (drop i places) → i < length places
     → (from ≤ slice_index_or places i 0) × (slice_index_or places i 0 < length cells) × AreRising (suc (slice_index_or places i 0)) (length cells) (drop (i + 1) places)
 next_place_is cells places i from rise lt = subst (λ (ps : List ℕ). AreRising from (length cells) ps) (drop_more places i 0 lt) rise
 
-pub next_put : (cells : List (List ℕ)) (places : List ℕ) (news : List (List (List ℕ))) (from i to : ℕ) (all more : List (List ℕ)) (new : List (List ℕ)) → IsUpTo cells places news from i all
+pub next_put : (cells : List (List ℕ)) (places : List ℕ) (news : List (List (List ℕ))) (first from i to : ℕ) (all more : List (List ℕ)) (new : List (List ℕ)) → IsUpTo cells places news first from i all
     → i < length places → length places ≡ length news → new ≡ slice_index_or news i new → to ≡ suc (slice_index_or places i 0)
-    → more ≡ all ++ (take (slice_index_or places i 0 - from) (drop from cells) ++ new) → IsUpTo cells places news to (i + 1) more
-next_put cells places news from i to all more new so lt count is to_is put =
+    → more ≡ all ++ (take (slice_index_or places i 0 - from) (drop from cells) ++ new) → IsUpTo cells places news first to (i + 1) more
+next_put cells places news first from i to all more new so lt count is to_is put =
     let place = slice_index_or places i 0 in
     let next = next_place_is cells places i from so.rises lt in
     let front = take (place - from) (drop from cells) in
     let rest = exchanged (suc place) (drop (i + 1) places) (drop (i + 1) news) cells in
     let news_are : drop i news ≡ new ∷ drop (i + 1) news = drop_more news i new (omega (arith, lt, count)) ∙ ap (λ (x : List (List ℕ)). x ∷ drop (i + 1) news) (sym is) in
-    subst (λ (n : ℕ). IsUpTo cells places news n (i + 1) more) (sym to_is) (record {
+    let regrouped : more ++ rest ≡ all ++ exchanged from (drop i places) (drop i news) cells =
+    ap (λ (xs : List (List ℕ)). xs ++ rest) put ∙ append_assoc all (front ++ new) rest ∙ ap (λ (xs : List (List ℕ)). all ++ xs) (append_assoc front new rest)
+    ∙ sym (ap (λ (xs : List (List (List ℕ))). all ++ exchanged from (place ∷ drop (i + 1) places) xs cells) news_are)
+    ∙ sym (ap (λ (ps : List ℕ). all ++ exchanged from ps (drop i news) cells) (drop_more places i 0 lt)) in
+    subst (λ (n : ℕ). IsUpTo cells places news first n (i + 1) more) (sym to_is) (record {
       within = (let within = next.1 in omega (arith, within));
+      after = (let after = so.after in let from_le = next.0 in omega (arith, after, from_le));
       rises = next.2;
-      whole = ap (λ (xs : List (List ℕ)). xs ++ rest) put ∙ append_assoc all (front ++ new) rest ∙ ap (λ (xs : List (List ℕ)). all ++ xs) (append_assoc front new rest)
-          ∙ sym (ap (λ (xs : List (List (List ℕ))). all ++ exchanged from (place ∷ drop (i + 1) places) xs cells) news_are)
-          ∙ sym (ap (λ (ps : List ℕ). all ++ exchanged from ps (drop i news) cells) (drop_more places i 0 lt))
-          ∙ so.whole;
+      whole = ap (λ (xs : List (List ℕ)). take first cells ++ xs) regrouped ∙ so.whole;
     })
 
-pub all_put : (cells : List (List ℕ)) (places : List ℕ) (news : List (List (List ℕ))) (from i : ℕ) (all : List (List ℕ)) → IsUpTo cells places news from i all → length places ≤ i
-    → all ++ drop from cells ≡ exchanged 0 places news cells
-all_put cells places news from i all so le = sym (ap (λ (ps : List ℕ). all ++ exchanged from ps (drop i news) cells) (drop_all i places le)) ∙ so.whole
+pub all_put : (cells : List (List ℕ)) (places : List ℕ) (news : List (List (List ℕ))) (first from i : ℕ) (all : List (List ℕ)) → IsUpTo cells places news first from i all → length places ≤ i
+    → take first cells ++ (all ++ drop from cells) ≡ exchanged 0 places news cells
+all_put cells places news first from i all so le = sym (ap (λ (ps : List ℕ). take first cells ++ (all ++ exchanged from ps (drop i news) cells)) (drop_all i places le)) ∙ so.whole
 
 -- ---- cells that are appended
 
@@ -167,16 +184,16 @@ below_refused old new size number ways rowid changes (Err e) fault is refused de
 
 -- ---- the pages of the cells
 
-pub exchanged_packs : (page : List ℕ) (start from : ℕ) (result : Result Packed Fault) (said rows : List (ℤ × Local)) (is : IsNode page start (Rows said)) → IsUsual page start → (all whole : List (List ℕ)) → from ≤ length is.cells
-    → all ++ drop from is.cells ≡ whole → AreOf TableLeaf (length page) [] whole (Rows rows) → Splices page start 0 from all [] result
+pub exchanged_packs : (page : List ℕ) (start first from count : ℕ) (result : Result Packed Fault) (said rows : List (ℤ × Local)) (is : IsNode page start (Rows said)) → IsUsual page start → (all whole : List (List ℕ)) → first ≤ from → from ≤ length is.cells → count ≡ from - first
+    → take first is.cells ++ (all ++ drop from is.cells) ≡ whole → AreOf TableLeaf (length page) [] whole (Rows rows) → Splices page start first count all [] result
     → MatchResult result (λ packed. (rises : Bool) × Packs TableLeaf (length page) (take start page) rises whole (Rows rows) packed) (λ fault. fault ≡ Memory)
-exchanged_packs page start from result said rows is usual all whole le e say splices = by result (splices TableLeaf (Rows said) (Rows rows) is usual refl (omega (arith, le))
+exchanged_packs page start first from count result said rows is usual all whole after le count_is e say splices = by result (splices TableLeaf (Rows said) (Rows rows) is usual refl (omega (arith, le, after, count_is))
     (subst (λ (cells : List (List ℕ)). AreOf TableLeaf (length page) [] cells (Rows rows)) (sym same) say))
   where
-    same : spliced 0 from all is.cells ≡ whole
-    same = (let plain : 0 + from ≡ from = omega arith in ap (λ (n : ℕ). all ++ drop n is.cells) plain ∙ e)
+    same : spliced first count all is.cells ≡ whole
+    same = (let plain : first + count ≡ from = omega (arith, after, count_is) in ap (λ (n : ℕ). take first is.cells ++ (all ++ drop n is.cells)) plain ∙ e)
 
-    by : (result : Result Packed Fault) → MatchResult result (Packs TableLeaf (length page) (take start page) (0 + from == length is.cells) (spliced 0 from all is.cells) (Rows rows)) (λ fault. fault ≡ Memory)
+    by : (result : Result Packed Fault) → MatchResult result (Packs TableLeaf (length page) (take start page) (first + count == length is.cells) (spliced first count all is.cells) (Rows rows)) (λ fault. fault ≡ Memory)
         → MatchResult result (λ packed. (rises : Bool) × Packs TableLeaf (length page) (take start page) rises whole (Rows rows) packed) (λ fault. fault ≡ Memory)
-    by (Ok packed) packs = (0 + from == length is.cells, subst (λ (cells : List (List ℕ)). Packs TableLeaf (length page) (take start page) (0 + from == length is.cells) cells (Rows rows) packed) same packs)
+    by (Ok packed) packs = (first + count == length is.cells, subst (λ (cells : List (List ℕ)). Packs TableLeaf (length page) (take start page) (first + count == length is.cells) cells (Rows rows) packed) same packs)
     by (Err fault) memory = memory

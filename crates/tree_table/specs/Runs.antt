@@ -191,6 +191,10 @@ abbrev pub ChangesBelow : PageMap → PageMap → ℕ → ℕ → ℕ → ℤ �
 ChangesBelow old new size number ways rowid changes result =
     Edits (IsNoRun (count_in result)) IsThereAt old new size number ways rowid (with_changes (take (count_in result) changes)) (change_in result)
 
+-- the change gives a row another payload
+abbrev pub Replaces : RowChange → Type 0
+Replaces change = (change.payload ≡ None) → ⊥
+
 -- where a tree stands, the first changes are made in it, or there is no row of the first
 abbrev pub EditsRun : PageMap → PageMap → ℕ → ℕ → ℤ → List RowChange → Result (ℕ × Bool) Fault → Type 0
 EditsRun old new size root rowid changes result = (rows : List Entry) (used free : List ℕ) → Stands old size root rows used free

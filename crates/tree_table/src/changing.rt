@@ -1,9 +1,10 @@
 //! Changing rows of a table's tree: taking them out, and giving them other payloads.
 
-ghost use Rattle.std.specs.Prelude.{◌≡◌, ◌<◌, ◌≤◌, length, IsTrue, IfOk};
+ghost use Rattle.std.specs.Prelude.{◌≡◌, ◌<◌, ◌≤◌, length, IsTrue, IsFalse, IfOk};
+ghost use Rattle.std.specs.List.{AllByRecursion};
 ghost use Rattle.pages.specs.Calls.{Causes};
 ghost use Rattle.tree_table.specs.Calls.{ChangesRows, RemovesRow};
-ghost use Rattle.tree_table.specs.Runs.{EditsRun, IsFirst, RunsAt};
+ghost use Rattle.tree_table.specs.Runs.{EditsRun, IsFirst, Replaces, RunsAt};
 
 use crate::flattening::store_top;
 use crate::growing::Change;
@@ -52,6 +53,13 @@ fn edit_run<P: WritePages>(
     }
 }
 
+/// Whether one of these changes takes a row out.
+fn removes(changes: &[RowChange]) -> bool
+    ensures { IsFalse result → AllByRecursion Replaces changes.now }
+{
+    changes.iter().any(|change| change.payload.is_none())
+}
+
 /// The same, and a tree whose last row went is its root alone then.
 fn change_run<P: WritePages>(
     alloc: Global,
@@ -72,6 +80,10 @@ fn change_run<P: WritePages>(
     let (count, there) = edit_run(alloc, pages, root, rowid, changes)?;
     if !there {
         return Ok((count, false));
+    }
+    let (made, _) = changes.split_at(count);
+    if !removes(made) {
+        return Ok((count, true));
     }
     settle(alloc, pages, root)?;
     Ok((count, true))

@@ -160,8 +160,12 @@ fn write_row<P: WritePages>(alloc: Global, pages: &mut P, change: &RowChange) ->
         return Ok(None);
     };
     let most = pages.page_size().saturating_sub(35);
+    let size = payload.len() as u64;
+    if payload.len() <= most {
+        return Ok(Some(row_cell(alloc, change.rowid, size, payload.as_slice())?));
+    }
     let held = write_payload(alloc, pages, most, payload.as_slice())?;
-    let cell = row_cell(alloc, change.rowid, payload.len() as u64, held.as_slice())?;
+    let cell = row_cell(alloc, change.rowid, size, held.as_slice())?;
     Ok(Some(cell))
 }
 
@@ -211,6 +215,16 @@ fn append_row<'a>(
     Ok(())
 }
 
+/// The first of these places, or 0 if there is none.
+fn first_of(places: &[usize]) -> usize
+    ensures { result ≡ slice_index_or places.now 0 0 }
+{
+    match places {
+        [first, ..] => *first,
+        [] => 0,
+    }
+}
+
 /// The pages that a leaf gives way to when the rows at these places get these cells, or none. (`Memory`; `Damaged` for another page.)
 fn exchange(
     alloc: Global,
@@ -224,13 +238,15 @@ fn exchange(
     ensures not_disk { IfErr result IsNotDiskFault }
 {
     let page = TreePage::over(bytes, start)?;
+    let first = first_of(places);
     let mut all = Vec::new(alloc);
-    let mut from = 0;
+    let mut from = first;
     'places: for index in 0..places.len() {
         append_row(&mut all, &page, from, places[index], &cells[index])?;
         from = places[index].saturating_add(1);
     }
-    splice(alloc, bytes, start, 0, from, all.as_slice(), None)
+    let count = from.saturating_sub(first);
+    splice(alloc, bytes, start, first, count, all.as_slice(), None)
 }
 
 /// The pages that a leaf gives way to when the rows of a run are changed, the first of which stands at this place, and how many changes were

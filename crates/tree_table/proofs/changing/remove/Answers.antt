@@ -1,6 +1,5 @@
-use Rattle.std.proofs.Common.{◌≡◌, ◌<◌, ◌≤◌, ◌∷◌, [], ℕ, ℤ, w64, Bool, Ok, Err, IfOk, subst}
+use Rattle.std.proofs.Common.{◌∷◌, [], ℤ, w64, Ok, Err, subst}
 use Rattle.std.proofs.lemmas.Int.{to_z-of_z}
-use Rattle.tree_table.specs.Calls.{IsRemoved}
 use Rattle.tree_table.specs.Runs.{RunsAt}
 use Rattle.tree_table.proofs.ChangedRuns.{removed_or, removal}
 use Rattle.tree_table.proofs.Exits.{full_err}

@@ -1,4 +1,4 @@
-use Rattle.std.proofs.Common.{rules, SFits, ◌≡◌, ◌∙◌, ◌≤◌, ◌-◌, ◌++◌, ℕ, pos, ap, length, w64, List, [], slice_index_or, arith}
+use Rattle.std.proofs.Common.{rules, SFits, ◌∙◌, ◌≤◌, ◌-◌, ◌++◌, ℕ, pos, ap, length, w64, List, [], slice_index_or, arith}
 use Rattle.std.proofs.lemmas.Int.{to_z-of_z}
 use Rattle.tree_page.specs.Node.{Local}
 use Rattle.tree_table.proofs.LeafRows.{says_rows, said_there, row_is_held, lies_whole}

@@ -1,4 +1,4 @@
-use Rattle.std.proofs.Common.{◌≡◌, ◌<◌, ◌++◌, ◌∙◌, ℕ, List, length, map, drop, sym, ap, subst, arith}
+use Rattle.std.proofs.Common.{◌≡◌, ◌<◌, ◌++◌, ◌∙◌, ℕ, List, length, map, take, drop, sym, ap, subst, arith}
 use Rattle.std.proofs.lemmas.List.{get_or-map, length-map}
 use Rattle.tree_page.specs.Node.{Rows}
 use Rattle.tree_pack.proofs.SplicingLemmas.{refused_on}
@@ -11,8 +11,8 @@ returns-in_err-page-clause-exchanged c = λ said rows is usual rise say. absurd 
 
 pub places-init : goal.places-init
 places-init c = λ node is rise.
-    subst (λ (all : List (List ℕ)). IsUpTo is.cells c.args.places.now (map cell_in c.args.cells.now) 0 0 all) (sym (ap (λ (xs : List _). map (λ cell. cell.now) xs) c.new-all.ensures.items))
-    (none_put is.cells c.args.places.now (map cell_in c.args.cells.now) rise)
+    subst (λ (all : List (List ℕ)). IsUpTo is.cells c.args.places.now (map cell_in c.args.cells.now) c.first_of-first.result c.first_of-first.result 0 all) (sym (ap (λ (xs : List _). map (λ cell. cell.now) xs) c.new-all.ensures.items))
+    (none_put is.cells c.args.places.now (map cell_in c.args.cells.now) c.first_of-first.result c.first_of-first.ensures rise)
 
 pub returns-in_err-append_row-clause-exchanged : goal.returns-in_err-append_row-clause-exchanged
 returns-in_err-append_row-clause-exchanged c = λ said rows is usual rise say.
@@ -37,14 +37,14 @@ places-preserved c = λ node is rise.
     let within = next.1 in
     let sum = c.saturating_add-from.ensures in
     let mapped = length-map c.args.cells.now cell_in in
-    next_put is.cells places (map cell_in c.args.cells.now) c.places.from i c.saturating_add-from.result (map (λ cell. cell.now) c.places.all.items) (map (λ cell. cell.now) c.append_row.new.out.items) (cell_in cell) here lt
+    next_put is.cells places (map cell_in c.args.cells.now) c.first_of-first.result c.places.from i c.saturating_add-from.result (map (λ cell. cell.now) c.places.all.items) (map (λ cell. cell.now) c.append_row.new.out.items) (cell_in cell) here lt
     (omega (arith, same, mapped)) (ap cell_in c.index-cells-index.is ∙ sym (get_or-map cell_in c.args.cells.now i cell (cell_in cell) lt_cells)) (omega (arith, few, within, sum))
     (put node is next.0 (omega (arith, within))))
 
 pub returns-clause-exchanged : goal.returns-clause-exchanged
 returns-clause-exchanged c = λ said rows is usual rise say.
     (let here = c.places.invariant (Rows said) is rise in
-    let whole = all_put is.cells c.args.places.now (map cell_in c.args.cells.now) c.places.from c.places.index (map (λ cell. cell.now) c.places.all.items) here c.places-test.false in
+    let whole = all_put is.cells c.args.places.now (map cell_in c.args.cells.now) c.first_of-first.result c.places.from c.places.index (map (λ cell. cell.now) c.places.all.items) here c.places-test.false in
     let items = ap (λ (xs : List _). map (λ cell. cell.now) xs) c.as_slice.ensures.value in
-    exchanged_packs c.args.bytes.now c.args.start c.places.from c.splice.result said rows is usual (map (λ cell. cell.now) c.as_slice.result.now) _ here.within
-    (ap (λ (xs : List (List ℕ)). xs ++ drop c.places.from is.cells) items ∙ whole) say c.splice.ensures.spliced)
+    exchanged_packs c.args.bytes.now c.args.start c.first_of-first.result c.places.from c.saturating_sub-count.result c.splice.result said rows is usual (map (λ cell. cell.now) c.as_slice.result.now) _ here.after here.within c.saturating_sub-count.ensures
+    (ap (λ (xs : List (List ℕ)). take c.first_of-first.result is.cells ++ (xs ++ drop c.places.from is.cells)) items ∙ whole) say c.splice.ensures.spliced)
