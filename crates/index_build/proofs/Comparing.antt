@@ -119,7 +119,7 @@ record_at (bytes ∷ records) [] place d e are lt = absurd are
 record_at (bytes ∷ records) (entry ∷ given) zero d e are lt = are.0
 record_at (bytes ∷ records) (entry ∷ given) (suc place) d e are lt = record_at records given place d e are.1 (omega (arith, lt))
 
-mapped_at : {X : Type 0} (f : X → List ℕ) (xs : List X) (place : ℕ) (d : X) → place < length xs → slice_index_or (map f xs) place [] ≡ f (slice_index_or xs place d)
+pub mapped_at : {X : Type 0} (f : X → List ℕ) (xs : List X) (place : ℕ) (d : X) → place < length xs → slice_index_or (map f xs) place [] ≡ f (slice_index_or xs place d)
 mapped_at f [] place d lt = absurd (omega (arith, lt))
 mapped_at f (x ∷ xs) zero d lt = refl
 mapped_at f (x ∷ xs) (suc place) d lt = mapped_at f xs place d (omega (arith, lt))
@@ -187,7 +187,7 @@ no_key : (ks : List SortKey) (entry : Entry) → keys_cmp ks [] entry ≡ Equal
 no_key [] entry = refl
 no_key (k ∷ ks) entry = refl
 
-all_come : (columns : List Collation) (entries : List Entry) → entries_from false columns [] entries ≡ entries
+pub all_come : (columns : List Collation) (entries : List Entry) → entries_from false columns [] entries ≡ entries
 all_come columns [] = refl
 all_come columns (entry ∷ entries) =
     ap (λ o. cond (not (is_gt o)) (entry ∷ entries_from false columns [] entries) (entries_from false columns [] entries)) (no_key (keys_of columns) entry)

@@ -2,6 +2,7 @@ pub mod Ranks
 pub mod RowEntries
 pub mod Comparing
 pub mod Checked
+pub mod KeysApart
 pub mod Makings
 pub mod Neighbours
 pub mod OneKeys

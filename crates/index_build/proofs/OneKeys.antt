@@ -189,6 +189,10 @@ module _ (columns : List IndexColumn) (i : Index) (unique : i.is_unique ≡ true
       none : (k : ℕ) → k + 0 ≡ k
       none k = omega arith
 
+  -- one clashes with another where that clashes with it
+  pub clash_back : (r s : Row) → clash i r.1 s.1 ≡ clash i s.1 r.1
+  clash_back r s = sym (agree r s) ∙ (even columns (indexed (columns_in columns) r) (indexed (columns_in columns) s) ∙ agree s r)
+
 -- neighbours tell it
 pub tells_clash : (columns : List IndexColumn) (entries : List Entry) (answer : Bool) → answer ≡ any_beside (have_one_key 0 columns) entries → TellsClash columns entries answer
 tells_clash columns entries answer is i rows unique columns_are entries_are =

@@ -31,7 +31,7 @@ rows_same columns (row ∷ rows) =
     ap (λ (l : List Value). (l ++ Int row.0 ∷ []) ∷ map (indexed_of columns) (map as_source rows)) (columns_same row.1 columns)
     ∙ ap (λ (l : List Entry). indexed (columns_in columns) row ∷ l) (rows_same columns rows)
 
-collations_same : (columns : List IndexColumn) → collations columns ≡ map (λ column. column.1) (columns_in columns)
+pub collations_same : (columns : List IndexColumn) → collations columns ≡ map (λ column. column.1) (columns_in columns)
 collations_same [] = refl
 collations_same (column ∷ columns) = ap (λ l. column.collation ∷ l) (collations_same columns)
 

@@ -1,5 +1,5 @@
 -- What the calls do.
-use Rattle.std.specs.Prelude.{◌≡◌, ◌⊎◌, ℕ, Bool, true, IsTrue, List, map, ⊤, Result, MatchResult}
+use Rattle.std.specs.Prelude.{◌≡◌, ◌⊎◌, ℕ, Bool, true, false, IsTrue, List, map, ⊤, Result, MatchResult}
 use Rattle.sqlval.specs.Faults.{IsOutside}
 use Rattle.sqlval.specs.declared.collation.Collation.{Collation}
 use Rattle.sqlval.specs.declared.fault.Damage.TheVariants as Damage
@@ -12,7 +12,7 @@ use Rattle.row_scan.specs.Rows.{TableRow}
 use Rattle.row_scan.specs.Trees.{HasRows}
 use Rattle.tree_index.specs.Entries.{Entry}
 use Rattle.tree_index.specs.Tree.{IsIndexTree}
-use Rattle.index_entries.specs.Entries.{entries_of_rows}
+use Rattle.index_entries.specs.Entries.{collations, entries_of_rows}
 use Rattle.index_entries.specs.Keeping.{columns_in}
 use Rattle.catalog.specs.Database.{Index}
 use Rattle.catalog.specs.declared.tables.IndexColumn.{IndexColumn}
@@ -26,6 +26,13 @@ SortsEntries pages size table columns result = (rows : List TableRow) → AreWho
 abbrev pub TellsClash : List IndexColumn → List Entry → Bool → Type 0
 TellsClash columns entries answer = (i : Index) (rows : List TableRow) → i.is_unique ≡ true → i.columns ≡ columns_in columns
     → entries ≡ entries_of_rows (columns_in columns) rows → answer ≡ has_clash i rows
+
+-- Where a UNIQUE index of these columns has the entries of rows, and its keys are seen to be apart, no two of the rows have one key without NULL.
+-- Or memory was short, or a disk's call failed.
+abbrev pub SeesKeysApart : PageMap → ℕ → ℕ → List IndexColumn → Result Bool Fault → Type 0
+SeesKeysApart pages size root columns result = (i : Index) (rows : List TableRow) (used : List ℕ) → i.is_unique ≡ true → i.columns ≡ columns_in columns
+    → AreWhole size pages → IsIndexTree pages size root (collations (columns_in columns)) (entries_of_rows (columns_in columns) rows) used
+    → MatchResult result (λ apart. IsTrue apart → has_clash i rows ≡ false) IsOutside
 
 -- ---- entries that are compared
 

@@ -14,7 +14,7 @@ use catalog::IndexColumn;
 use sqlval::{Collation, Field, Many, Value};
 
 /// Whether a value is NULL.
-fn is_null(value: Field<'_>) -> bool
+pub(crate) fn is_null(value: Field<'_>) -> bool
     ensures { result ≡ keys.is_null (value_of value.entry) }
 {
     matches!(value, Field::Null)
