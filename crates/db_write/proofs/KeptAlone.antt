@@ -43,7 +43,7 @@ use Rattle.index_entries.specs.Entries.{collations, entries_of_rows, indexed}
 use Rattle.index_entries.specs.Keeping.{columns_in, row_in}
 use Rattle.db_layout.specs.Trees.{AreAmong, IsEntriesTree, columns_of}
 use Rattle.db_write.specs.Changing.{AreUpdated, IsRefusedUpdate, UpdatesInTrees}
-use Rattle.db_write.specs.Kept.{AreAloneIn, AreSetAlone, FindsKept, SeeAlone}
+use Rattle.db_write.specs.Kept.{AreAloneIn, AreSetAlone, FindsKept, SeeAlone, SeeApart}
 use Rattle.db_write.specs.OneRow.{IsOneOf}
 use Rattle.db_write.specs.Reading.{LoadsEnough}
 use Rattle.db_write.specs.Turning.{HaveEntries, HaveNow, clashes_among, clashes_at}
@@ -52,6 +52,7 @@ use Rattle.db_write.proofs.Clashing as clashing
 use Rattle.db_write.proofs.Needed.{MeansRows, has_indexed, source}
 use Rattle.db_write.proofs.Owned.{RowsStand, fit_apart, indexes_stand, rows_among, table_holds}
 use Rattle.db_write.proofs.PutRows.{others_left}
+use Rattle.db_write.proofs.SeenApart.{some_alone}
 use Rattle.db_write.proofs.SetShuffles.{meant_are}
 use Rattle.db_write.proofs.TurnedRows.{Split, in_filter, split_at}
 
@@ -215,6 +216,22 @@ module _ (pages : PageMap) (size : ℕ) (table : Table) (c : Option Term) (sets 
     -- without a UNIQUE index
     pub finds_free : has_unique table ≡ false → Finds (Ok (Some changes))
     finds_free none schema before after rows sized is_root among fit enough = set_alone rows enough fit (free_all table rows (keeps rows enough).olds none)
+
+    -- the indexes aren't read
+    pub finds_unseen : (fault : Fault) (result : Result (Option (Vec RowChange)) Fault) → IsErrAnd result (λ e. e ≡ fault) → SeeApart pages size table.indexes (Err fault) → Finds result
+    finds_unseen fault (Ok kept) same sees = absurd same
+    finds_unseen fault (Err e) same sees = λ schema before after rows sized is_root among fit enough.
+        (let have = has_indexed pages size table schema before rows after (rows_among pages size schema before table rows after among sized is_root) fit in
+        inl (inl (subst IsOutside (sym same) (sees rows have.whole have.entries))))
+
+    -- no two rows clash
+    pub finds_apart : (apart : Bool) → IsTrue apart → SeeApart pages size table.indexes (Ok apart) → Finds (Ok (Some changes))
+    finds_apart apart so sees schema before after rows sized is_root among fit enough =
+        (let have = has_indexed pages size table schema before rows after (rows_among pages size schema before table rows after among sized is_root) fit in
+        let k = keeps rows enough in
+        let among_rows = subst (AllByRecursion (λ row. IsOneOf row rows)) (chosen_known table sets c rows k.olds k.chosen).0 (in_filter (meant_by c) rows) in
+        set_alone rows enough fit
+        (all_alone table rows k.olds (fit_rows_rise (with_rows table rows) fit) among_rows (some_alone rows k.olds table.indexes among_rows (sees rows have.whole have.entries so))))
 
     module _ (meant : Vec stored.TableRow) (means : MeansRows c found (Ok meant)) where
       olds_are : (rows : List TableRow) (enough : AreEnough c found rows) → (keeps rows enough).olds ≡ map row_in meant.items

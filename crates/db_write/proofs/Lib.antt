@@ -5,6 +5,7 @@ mod Dropped
 mod Indexed
 mod KeptAlone
 mod LookedAt
+mod SeenApart
 mod InsertedRows
 pub mod Looping
 pub mod Needed

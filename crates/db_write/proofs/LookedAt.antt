@@ -23,7 +23,7 @@ use Rattle.db_write.specs.Kept.{AreAloneIn, ClashesWithNone, SeeAlone, SeesAlone
 use Rattle.db_write.specs.OneRow.{IsOneOf}
 use Rattle.db_write.proofs.TurnedRows.{Split, split_at}
 
-at_place : {X : Type 0} (P : X → Type 0) (xs : List X) (i : ℕ) (x : X) → i < length xs → x ≡ slice_index_or xs i x → AllByRecursion P xs → P x
+pub at_place : {X : Type 0} (P : X → Type 0) (xs : List X) (i : ℕ) (x : X) → i < length xs → x ≡ slice_index_or xs i x → AllByRecursion P xs → P x
 at_place P [] i x lt is all = absurd (omega (arith, lt))
 at_place P (y ∷ xs) zero x lt is all = subst P (sym is) all.0
 at_place P (y ∷ xs) (suc i) x lt is all = at_place P xs i x (omega (arith, lt)) is all.1

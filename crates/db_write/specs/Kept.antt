@@ -47,6 +47,17 @@ SeeAlone pages size indexes those result = (rows : List TableRow) → AreApart r
     → AllByRecursion (λ row. IsOneOf row rows) those
     → MatchResult result (λ alone. IsTrue alone → AllByRecursion (AreAloneIn rows those) indexes) IsOutside
 
+-- Where an index's tree has the entries of rows, each of the rows is seen to clash with none of the others, where the index is UNIQUE, or it isn't
+-- said; or memory was short, or a disk's call failed.
+abbrev pub SeesApart : PageMap → ℕ → Index → Result Bool Fault → Type 0
+SeesApart pages size index result = (rows : List TableRow) → AreWhole size pages → HasEntriesOf pages size rows index
+    → MatchResult result (λ apart. IsTrue apart → AreAloneIn rows rows index) IsOutside
+
+-- and so in each of these indexes
+abbrev pub SeeApart : PageMap → ℕ → List Index → Result Bool Fault → Type 0
+SeeApart pages size indexes result = (rows : List TableRow) → AreWhole size pages → AllByRecursion (HasEntriesOf pages size rows) indexes
+    → MatchResult result (λ apart. IsTrue apart → AllByRecursion (AreAloneIn rows rows) indexes) IsOutside
+
 -- the rows that are set are kept, and these are their changes, and all rows are set as they become
 pub record AreSetAlone (table : Table) (sets : List (ℕ × Term)) (condition : Option Term) (rows : List TableRow) (changes : List RowChange) : Type 0 where
   pub kept : AreKeptBy table sets condition rows changes

@@ -12,7 +12,7 @@ ghost use Rattle.db_write.specs.OneRow.{TurnsFrom, TurnsRow};
 ghost use Rattle.db_write.specs.Reading.{LoadsEnough};
 ghost use Rattle.db_write.specs.Turning.{MovesRowInIndexes};
 
-use crate::alone::are_alone;
+use crate::alone::{all_keys_are_apart, are_alone};
 use crate::entries::replace_in_indexes;
 use crate::reading::enough_rows;
 use crate::row_entries::{has_unique, move_row_in_indexes, replace_row_in_indexes};
@@ -210,8 +210,13 @@ fn set_with_entries<P: WritePages>(
     }
 }
 
+/// How many rows have to be set for each leaf of a UNIQUE index that is read to see its keys apart, before each row is looked for. A leaf of 200
+/// entries costs about as much as fifteen looks-up: what is read in vain takes at most half as long as the looks-up that follow.
+const ROWS_A_LEAF: usize = 32;
+
 /// The changes of the table's tree by which SET's values come to its rows, where SET leaves the rowids and each row that is set is kept and, beside
-/// UNIQUE indexes, seen to be alone. (What `kept_changes`, `meant_rows` and `are_alone` refuse.)
+/// UNIQUE indexes, seen to be alone: where many are set, in reading each index from its beginning, and else, or where that doesn't show it, in
+/// looking for each of them. (What `kept_changes`, `all_keys_are_apart`, `meant_rows` and `are_alone` refuse.)
 fn changes_alone<P: WritePages>(
     alloc: Global,
     pages: &mut P,
@@ -232,8 +237,12 @@ fn changes_alone<P: WritePages>(
     if !has_unique(table) {
         return Ok(Some(changes));
     }
+    let indexes = table.indexes.as_slice();
+    if all_keys_are_apart(alloc, pages, indexes, changes.len() / ROWS_A_LEAF)? {
+        return Ok(Some(changes));
+    }
     let meant = meant_rows(alloc, rows, condition)?;
-    if are_alone(alloc, pages, table.indexes.as_slice(), &meant)? {
+    if are_alone(alloc, pages, indexes, &meant)? {
         return Ok(Some(changes));
     }
     Ok(None)
@@ -268,10 +277,11 @@ fn set_in_places<P: WritePages>(
 
 /// Sets values in the rows of a table for which a condition is true, or in all where there is none, and changes their entries in its indexes
 /// accordingly. Rows are read once. Where SET leaves the rowids and names no column of an index, and the columns store what it gives as it is, the
-/// table's tree alone changes, and a UNIQUE index is only searched for other rows of the rows' keys. Else an entry that stays as it is costs no page,
-/// except for that search; where there is such an index, or SET may give a row another rowid, a row changes with its entries before the next one.
-/// (What the condition, SET's expressions, the columns and the table refuse for a row, in order; `Unique` for a row that has another's rowid then, or
-/// its key in a UNIQUE index; `TooLong` for an index of more than 999 columns; `Memory`, `Io`, `Full`. Then some pages may have changed.)
+/// table's tree alone changes, and a UNIQUE index is only read, or searched, for other rows of the rows' keys. Else an entry that stays as it is
+/// costs no page, except for that search; where there is such an index, or SET may give a row another rowid, a row changes with its entries before
+/// the next one. (What the condition, SET's expressions, the columns and the table refuse for a row, in order; `Unique` for a row that has another's
+/// rowid then, or its key in a UNIQUE index; `TooLong` for an index of more than 999 columns; `Memory`, `Io`, `Full`. Then some pages may have
+/// changed.)
 pub fn update_rows<P: WritePages>(
     alloc: Global,
     pages: &mut P,
