@@ -37,8 +37,7 @@ pub struct ScopeSource {
 pub fn folded(alloc: Global, name: &Name) -> R<Name>
     ensures { IsOrMemory (λ copy. copy ≡ spelled.folded name.now) result }
 {
-    let text = name.as_str().to_ascii_lowercase(alloc)?;
-    Ok(Name::from_str(alloc, text.as_str())?)
+    Ok(name.folded(alloc)?)
 }
 
 /// A table's column, as expressions see it, which may be another name of the rowid. (`Memory` alone.)
