@@ -5,6 +5,7 @@ use Rattle.byteorder.specs.Endian.{big_number, twos_complement}
 use Rattle.sqlval.specs.declared.value.Value.{Value}
 use Rattle.sqlval.specs.declared.value.Value.TheVariants.{Null, Int, Text, Blob}
 use Rattle.record.specs.Varint.{varint_at}
+use Rattle.record.specs.Record.{IsRecord}
 use Rattle.record.specs.declared.field.Wrong.{Wrong}
 use Rattle.record.specs.declared.field.Wrong.TheVariants.{Float, Broken}
 use Rattle.sqlval.specs.declared.fault.Fault.{Fault}
@@ -82,6 +83,10 @@ unfoldable pub record_at : List ℕ → Result (List Value) Wrong
 record_at bytes = do
   halves ← halves_at bytes
   columns_at (length halves.0) halves.0 halves.1
+
+-- the bytes of a record are read as its values
+abbrev pub ReadsRecords : Type 0
+ReadsRecords = (bytes : List ℕ) (values : List Value) → IsRecord bytes values → record_at bytes ≡ Ok values
 
 -- the refusal of each fault
 abbrev pub fault_of : Wrong → Fault

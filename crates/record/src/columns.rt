@@ -6,7 +6,7 @@ ghost use Rattle.sqlval.specs.Fields.{value_of};
 ghost use Rattle.record.specs.Columns.{HoldsValues, left_after, value_here, values_from, values_in};
 
 use crate::field::{body_size, read_field};
-use crate::row::split;
+use crate::row::halves_of;
 use crate::varint::get_varint;
 use sqlval::{Field, Many, Value};
 use std::alloc::{AllocError, Global};
@@ -90,7 +90,7 @@ fn all_fields<'a>(
 pub fn value_at(bytes: &[u8], index: usize) -> Field<'_>
     ensures { value_of result ≡ unwrap_or (slice_get (values_in bytes.now) index) Null }
 {
-    match split(bytes) {
+    match halves_of(bytes) {
         Ok((types, bodies)) => nth_value(types, bodies, index),
         Err(_) => Field::Null,
     }
@@ -100,7 +100,7 @@ pub fn value_at(bytes: &[u8], index: usize) -> Field<'_>
 pub fn fields_of(alloc: Global, bytes: &[u8]) -> Result<Vec<Field<'_>>, AllocError>
     ensures { IfOk result (λ fields. map value_of fields.items ≡ values_in bytes.now) }
 {
-    match split(bytes) {
+    match halves_of(bytes) {
         Ok((types, bodies)) => all_fields(alloc, types, bodies),
         Err(_) => Ok(Vec::new(alloc)),
     }

@@ -22,6 +22,7 @@ mod varint;
 mod writing;
 
 pub use columns::{fields_of, records_hold_their_values, value_at, values_of};
-pub use row::{Record, bytes_determine_values};
+pub use field::{Wrong, read_field};
+pub use row::{Record, bytes_determine_values, halves_of, records_are_read};
 pub use varint::{get_varint, put_varint, varint_len};
 pub use writing::{encode, encode_fields, encode_row, is_storable};

@@ -6,7 +6,7 @@ ghost use Rattle.sqlval.specs.declared.value.Value.TheVariants.{Null};
 ghost use Rattle.sqlval.specs.Fields.{value_of};
 ghost use Rattle.sqlval.specs.Gives.{Gives};
 ghost use Rattle.record.specs.Record.{DetermineValues, IsRecord};
-ghost use Rattle.record.specs.Reading.{Reads, answer, columns_at, halves_at, record_at};
+ghost use Rattle.record.specs.Reading.{Reads, ReadsRecords, answer, columns_at, halves_at, record_at};
 
 use crate::field::{Wrong, read_field};
 use crate::varint::get_varint;
@@ -17,7 +17,7 @@ use std::marker::Model;
 
 /// The types and the bodies of a record.
 #[tactic(auto, unfolding(crate::specs::Reading::halves_at))]
-pub(crate) fn split(bytes: &[u8]) -> Result<(&[u8], &[u8]), Wrong>
+pub fn halves_of(bytes: &[u8]) -> Result<(&[u8], &[u8]), Wrong>
     ensures { Reads (λ found. (found.0.now, found.1.now)) result (halves_at bytes.now) }
 {
     let Some((whole, rest)) = get_varint(bytes) else {
@@ -102,7 +102,7 @@ impl<'a> Record<'a> {
 fn read(alloc: Global, bytes: &[u8]) -> R<Record<'_>>
     ensures { Gives (λ row. row) result (answer (record_at bytes.now)) }
 {
-    let (types, bodies) = split(bytes)?;
+    let (types, bodies) = halves_of(bytes)?;
     let fields = fields(alloc, types, bodies)?;
     Ok(Record { fields })
 }
@@ -110,4 +110,9 @@ fn read(alloc: Global, bytes: &[u8]) -> R<Record<'_>>
 /// The bytes of a record determine its values.
 pub fn bytes_determine_values()
     ensures { DetermineValues }
+{}
+
+/// The bytes of a record are read as its values.
+pub fn records_are_read()
+    ensures { ReadsRecords }
 {}
