@@ -3,10 +3,10 @@ use Rattle.std.proofs.Common.{◌≡◌, refl, sym, ◌∙◌, ap, subst, IsTrue
 use Rattle.std.specs.declared.cmp.Ordering.{Ordering}
 use Rattle.std.specs.declared.cmp.Ordering.TheVariants.{Less, Equal, Greater}
 use Rattle.std.specs.Ordering.{is_ne, ordering_then}
-use Rattle.std.specs.Prelude.{⊤, min, IsErrAnd, MatchResult}
+use Rattle.std.specs.Prelude.{⊤, min, MatchResult}
 use Rattle.std.proofs.lemmas.Bool.{cases_lt}
 use Rattle.std.proofs.lemmas.List.{length-drop}
-use Rattle.sqlval.specs.Faults.{IsOutside, IsOrMemory}
+use Rattle.sqlval.specs.Faults.{IsOutside}
 use Rattle.sqlval.specs.Gives.{Refuses}
 use Rattle.sqlval.specs.Lists.{SortKey, keys_cmp}
 use Rattle.sqlval.specs.Order.{order}
@@ -149,14 +149,6 @@ same_ok x y e = cc
 -- what was read is the entry
 pub entry_is : (row entry : List Value) → ◌≡◌ {A = Result (List Value) Fault} (Ok entry) (Ok row) → row ≡ entry
 entry_is row entry e = sym (same_ok entry row e)
-
-pub memory_or : (result : Result Ordering Fault) (fault : Fault) (P : Ordering → Type 0) → IsErrAnd result (λ e. e ≡ fault) → fault ≡ Memory → IsOrMemory P result
-memory_or (Ok o) fault P is memory = absurd is
-memory_or (Err e) fault P is memory = is ∙ memory
-
-pub or_outside : (P : Ordering → Type 0) (result : Result Ordering Fault) → IsOrMemory P result → MatchResult result P IsOutside
-or_outside P (Ok o) is = is
-or_outside P (Err fault) memory = inl memory
 
 -- ---- the entry at a place of a page
 

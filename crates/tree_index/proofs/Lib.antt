@@ -4,6 +4,7 @@ pub mod LastEntries
 mod Fillings
 mod Readings
 mod Comparisons
+mod Lying
 pub mod Orders
 mod Halving
 mod Shares

@@ -1,12 +1,13 @@
 //! How an entry compares with those on a page.
 
-ghost use Rattle.std.specs.Prelude.{◌≡◌, ◌≤◌, ◌<◌, ℕ, List, length, map, IsTrue, IfErr, IfSome};
-ghost use Rattle.sqlval.specs.Faults.{IsNotDiskFault, IsOrMemory};
+ghost use Rattle.std.specs.Prelude.{◌≡◌, ◌≤◌, ◌<◌, ℕ, List, Ok, length, map, IsTrue, IfErr, IfSome};
+ghost use Rattle.sqlval.specs.Faults.{IsNotDiskFault};
 ghost use Rattle.sqlval.specs.Fields.{value_of};
 ghost use Rattle.sqlval.specs.Order.{order as value_order};
 ghost use Rattle.sqlval.specs.declared.value.Value.{Value as ValueIs};
 ghost use Rattle.pages.specs.Calls.{Stays};
 ghost use Rattle.pages.specs.Map.{PageMap, page_at};
+ghost use Rattle.record.specs.Reading.{columns_at};
 ghost use Rattle.record.specs.Record.{IsRecord};
 ghost use Rattle.tree_page.specs.Payload.{index_most};
 ghost use Rattle.tree_index.specs.Comparing.{ComparesEntry, collation_for};
@@ -14,9 +15,8 @@ ghost use Rattle.tree_index.specs.Entries.{entry_cmp};
 
 use crate::cells::{at_page, local_in, most_in};
 use pages::Pages;
-use record::Record;
+use record::{Record, halves_of, read_field, records_are_read};
 use sqlval::{Collation, Field, R, Value, compare_fields};
-use std::alloc::Global;
 use std::cmp::Ordering;
 use tree_overflow::read_payload;
 
@@ -62,20 +62,45 @@ pub fn compare_entry(key: Key<'_>, entry: &Record<'_>) -> Ordering
     Ordering::Equal
 }
 
-/// The order of a key and the entry of a payload. (`Memory`, and what `Record::over` refuses.)
-fn compare_payload(alloc: Global, key: Key<'_>, payload: &[u8]) -> R<Ordering>
-    ensures only { (entry : List ValueIs) → IsRecord payload.now entry
-        → IsOrMemory (λ order. order ≡ entry_cmp key.entry.columns.now key.entry.values.now entry) result }
-    ensures not_disk { IfErr result IsNotDiskFault }
+/// The order of a key and the entry with these types and bodies: value by value, each where it lies, up to the first that differs. (Any order
+/// where they are none of an entry.)
+fn compare_lying(key: Key<'_>, types: &[u8], bodies: &[u8]) -> Ordering
+    ensures { (entry : List ValueIs) → columns_at (length types.now) types.now bodies.now ≡ Ok entry
+        → result ≡ entry_cmp key.entry.columns.now key.entry.values.now entry }
 {
-    let entry = Record::over(alloc, payload)?;
-    Ok(compare_entry(key, &entry))
+    let most = key.values.len().min(key.columns.len() + 1);
+    let mut types_left = types;
+    let mut bodies_left = bodies;
+    'values: for place in 0..most {
+        let Ok((field, types_after, bodies_after)) = read_field(types_left, bodies_left) else {
+            return Ordering::Equal;
+        };
+        let collation = collation_at(key.columns, place);
+        let order = compare_field(&key.values[place], field, collation);
+        if order.is_ne() {
+            return order;
+        }
+        types_left = types_after;
+        bodies_left = bodies_after;
+    }
+    Ordering::Equal
+}
+
+/// The order of a key and the entry of a payload, which is compared where it lies. (Any order for bytes that are no record.)
+fn compare_payload(key: Key<'_>, payload: &[u8]) -> Ordering
+    ensures { (entry : List ValueIs) → IsRecord payload.now entry
+        → result ≡ entry_cmp key.entry.columns.now key.entry.values.now entry }
+{
+    records_are_read();
+    match halves_of(payload) {
+        Ok((types, bodies)) => compare_lying(key, types, bodies),
+        Err(_) => Ordering::Equal,
+    }
 }
 
 /// The order of a key and the entry at a place of the page of these bytes, of which `most` lie whole in a cell; None if its payload goes on in
 /// overflow pages. (As `order` refuses it.)
 pub(crate) fn order_in(
-    alloc: Global,
     bytes: &[u8],
     number: u32,
     place: usize,
@@ -94,11 +119,11 @@ pub(crate) fn order_in(
     if local.size > most as u64 {
         return None;
     }
-    Some(compare_payload(alloc, key, local.bytes))
+    Some(Ok(compare_payload(key, local.bytes)))
 }
 
 /// The order of a key and the entry at a place of a page: from the page if its payload lies whole there, else from `scratch`, which it is read
-/// into. (What `load`, `read_payload` and `Record::over` refuse; `Damaged` for a page that is none of an index, or has no such entry.)
+/// into. (What `load` and `read_payload` refuse, and short memory; `Damaged` for a page that is none of an index, or has no such entry.)
 pub fn order<P: Pages>(
     pages: &mut P,
     number: u32,
@@ -113,7 +138,6 @@ pub fn order<P: Pages>(
     ensures stays { Stays P.Pages.below P.Pages.map P.Pages.count P.Pages.failures result pages.old pages.new }
 {
     pages.load(number)?;
-    let alloc = *scratch.allocator();
     let most = most_in(pages.page_size());
     let local = match local_in(pages.loaded(), number, place) {
         Ok(local) => local,
@@ -121,11 +145,11 @@ pub fn order<P: Pages>(
     };
     let size = local.size;
     if size <= most as u64 {
-        return compare_payload(alloc, key, local.bytes);
+        return Ok(compare_payload(key, local.bytes));
     }
     // The chain is read through the same pages, which lend these bytes.
-    let held = local.bytes.to_vec(alloc)?;
+    let held = local.bytes.to_vec(*scratch.allocator())?;
     scratch.clear();
     read_payload(pages, held.as_slice(), size, most, scratch)?;
-    compare_payload(alloc, key, scratch.as_slice())
+    Ok(compare_payload(key, scratch.as_slice()))
 }

@@ -13,7 +13,6 @@ use crate::cells::{at_page, child_of, len_in, len_of, most_in};
 use crate::comparing::{Key, order, order_in};
 use pages::Pages;
 use sqlval::R;
-use std::alloc::Global;
 use std::cmp::Ordering;
 
 /// Where the way to an entry goes on from a page.
@@ -36,14 +35,7 @@ fn is_past(order: Ordering, after: bool) -> bool
 
 /// The first place on the page of these bytes, found as `place_of` does; None if the payload of an entry that is compared goes on in overflow
 /// pages. (As `len_of` and `order_in` refuse it.)
-fn place_in(
-    alloc: Global,
-    bytes: &[u8],
-    number: u32,
-    most: usize,
-    key: Key<'_>,
-    after: bool,
-) -> Option<R<usize>>
+fn place_in(bytes: &[u8], number: u32, most: usize, key: Key<'_>, after: bool) -> Option<R<usize>>
     ensures found { IfSome result (λ found. (pages : PageMap) (size : ℕ)
         → bytes.now ≡ page_at pages number → most ≡ index_most size
         → FindsPlace pages size number after key.entry.columns.now key.entry.values.now found) }
@@ -56,7 +48,7 @@ fn place_in(
     };
     'halves: while low < high {
         let middle = low + (high - low) / 2;
-        let order = match order_in(alloc, bytes, number, middle, most, key)? {
+        let order = match order_in(bytes, number, middle, most, key)? {
             Ok(order) => order,
             Err(fault) => return Some(Err(fault)),
         };
@@ -113,8 +105,7 @@ pub(crate) fn place_of<P: Pages>(
 {
     pages.load(number)?;
     let most = most_in(pages.page_size());
-    let alloc = *scratch.allocator();
-    if let Some(found) = place_in(alloc, pages.loaded(), number, most, key, after) {
+    if let Some(found) = place_in(pages.loaded(), number, most, key, after) {
         return found;
     }
     place_over_chains(pages, number, key, after, scratch)

@@ -2,7 +2,7 @@ use Rattle.std.proofs.Common.{rules, ◌≡◌, ◌∙◌, ◌≤◌, ◌++◌, 
 use Rattle.record.specs.Record.{IsRecord}
 use Rattle.tree_page.specs.Payload.{index_most}
 use Rattle.tree_page.specs.Reading.{local_of}
-use Rattle.tree_index.proofs.Comparisons.{local_within, held_at, nothing, or_outside, payload_read}
+use Rattle.tree_index.proofs.Comparisons.{local_within, held_at, nothing, payload_read}
 use Rattle.tree_index.proofs.Readings.{refused, says_it, lies_whole}
 use Rattle.tree_index.proofs.comparing.order.Goals as goal
 
@@ -23,8 +23,7 @@ returns-then-size-most-clause-found g c = λ told node entries d whole has lt.
     let it = slice_index_or entries c.args.place d in
     let most : c.most_in-most.result ≡ index_most size = c.most_in-most.ensures ∙ ap index_most (c.page_size.ensures ∙ ap (λ k. (g.P.Pages.limits k).page) c.in_ok-load.ensures.stays.kept) in
     let le : length it.payload ≤ index_most size = omega (arith, held.size, c.if-size-most.true, most) in
-    or_outside _ c.compare_payload.result
-    (c.compare_payload.ensures.only it.entry (subst (λ (bytes : List ℕ). IsRecord bytes it.entry) (sym (lies_whole pages size (index_most size) _ it.payload it.pages held.payload le)) held.record_is)))
+    c.compare_payload.ensures it.entry (subst (λ (bytes : List ℕ). IsRecord bytes it.entry) (sym (lies_whole pages size (index_most size) _ it.payload it.pages held.payload le)) held.record_is))
 
 pub returns-in_err-read_payload-clause-found : goal.returns-in_err-read_payload-clause-found
 returns-in_err-read_payload-clause-found g c = λ told node entries d whole has lt.
@@ -55,5 +54,4 @@ returns-clause-found g c = λ told node entries d whole has lt.
     it stays.kept stays.same (c.most_in-most.ensures ∙ ap index_most c.page_size.ensures) all whole held c.in_ok-read_payload.ensures.read told in
     let bytes : c.as_slice-2.result.now ≡ c.read_payload.new.out.items = search rules in
     let from : c.clear.new.self.items ≡ [] = search rules in
-    or_outside _ c.compare_payload-2.result
-    (c.compare_payload-2.ensures.only it.entry (subst (λ (them : List ℕ). IsRecord them it.entry) (sym (bytes ∙ read ∙ ap (λ (l : List ℕ). l ++ it.payload) from)) held.record_is)))
+    c.compare_payload-2.ensures it.entry (subst (λ (them : List ℕ). IsRecord them it.entry) (sym (bytes ∙ read ∙ ap (λ (l : List ℕ). l ++ it.payload) from)) held.record_is))

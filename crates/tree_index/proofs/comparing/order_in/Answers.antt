@@ -2,7 +2,7 @@ use Rattle.std.proofs.Common.{◌≤◌, ℕ, List, length, sym, subst, slice_in
 use Rattle.record.specs.Record.{IsRecord}
 use Rattle.tree_page.specs.Payload.{index_most}
 use Rattle.tree_page.specs.Reading.{local_of}
-use Rattle.tree_index.proofs.Comparisons.{local_within, held_at, nothing, or_outside}
+use Rattle.tree_index.proofs.Comparisons.{local_within, held_at, nothing}
 use Rattle.tree_index.proofs.Readings.{says_it, lies_whole}
 use Rattle.tree_index.proofs.comparing.order_in.Goals as goal
 
@@ -18,5 +18,4 @@ returns-clause-found c = λ pages size read most node entries d whole has lt.
     let held = held_at pages size c.args.number c.args.place node entries d has lt local (c.in-Ok.ensures.only node local is has.ours (local_within pages size c.args.number c.args.place node entries d has lt)) in
     let it = slice_index_or entries c.args.place d in
     let le : length it.payload ≤ index_most size = omega (arith, held.size, c.if-local-most.false, most) in
-    or_outside _ c.compare_payload.result
-    (c.compare_payload.ensures.only it.entry (subst (λ (bytes : List ℕ). IsRecord bytes it.entry) (sym (lies_whole pages size (index_most size) _ it.payload it.pages held.payload le)) held.record_is)))
+    c.compare_payload.ensures it.entry (subst (λ (bytes : List ℕ). IsRecord bytes it.entry) (sym (lies_whole pages size (index_most size) _ it.payload it.pages held.payload le)) held.record_is))
