@@ -15,3 +15,4 @@ pub mod Splices
 pub mod Rooms
 pub mod PlacingLemmas
 pub mod ReplacingLemmas
+pub mod RemovingLemmas

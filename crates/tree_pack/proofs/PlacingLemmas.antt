@@ -51,13 +51,13 @@ all_behind page least most (span ∷ spans) (cell ∷ cells) e are =
 -- ---- where the cells stand
 
 -- the new page has the bytes of the old one from this offset on, and its length
-record EndsSo (low : ℕ) (old new : List ℕ) : Type 0 where
+pub record EndsSo (low : ℕ) (old new : List ℕ) : Type 0 where
   pub same : drop low new ≡ drop low old
   pub long : length new ≡ length old
   pub within : low ≤ length old
 
 -- a cell from there on stands in both
-cell_stays : (low : ℕ) (old new : List ℕ) (span : Span) (cell : List ℕ) → EndsSo low old new → low ≤ span.from → IsAt old span cell → IsAt new span cell
+pub cell_stays : (low : ℕ) (old new : List ℕ) (span : Span) (cell : List ℕ) → EndsSo low old new → low ≤ span.from → IsAt old span cell → IsAt new span cell
 cell_stays low old new span cell is le at =
     let far : low ≤ length at.before = omega (arith, le, at.from_is) in
     let tail : drop low old ≡ drop low at.before ++ (cell ++ at.after) = ap (drop low) at.parts ∙ drop-append-le low at.before (cell ++ at.after) far in
@@ -90,7 +90,7 @@ pairs_insert P (a ∷ xs) (b ∷ ys) (suc place) x y is are = (are.0, pairs_inse
 -- ---- the cells share no byte
 
 -- they are apart from others too, if each is apart from one that makes up for them
-apart_more : (before others spans : List Span) (one : Span) → ((P : Span → Type 0) → AllByRecursion P before → P one → AllByRecursion P others) → AllByRecursion (λ span. IsApart span one) spans
+pub apart_more : (before others spans : List Span) (one : Span) → ((P : Span → Type 0) → AllByRecursion P before → P one → AllByRecursion P others) → AllByRecursion (λ span. IsApart span one) spans
     → AreApart before spans → AreApart others spans
 apart_more before others [] one more clear apart = tt
 apart_more before others (span ∷ spans) one more clear apart = (

@@ -13,12 +13,13 @@ use Rattle.tree_page.proofs.NodeLemmas.{node_count}
 use Rattle.tree_pack.specs.Placing.{IsPlaced}
 use Rattle.tree_pack.specs.Replacing.{written_over, no_span, IsCellAt}
 use Rattle.tree_pack.specs.Splicing.{spliced}
+use Rattle.tree_pack.specs.declared.replacing.CellPlace.{CellPlace}
 use Rattle.tree_pack.proofs.PlacingLemmas.{halves}
 
 -- ---- the bytes that are written
 
 -- no byte of the span is written over
-abbrev IsClear : ℕ → ℕ → Span → Type 0
+abbrev pub IsClear : ℕ → ℕ → Span → Type 0
 IsClear at size span = (span.to ≤ at) ⊎ (at + size ≤ span.from)
 
 -- a cell that isn't written over stays
@@ -56,7 +57,7 @@ after_stays page bytes at span cell within le is =
       near = is.near;
     }
 
-clear_stays : (page bytes : List ℕ) (at : ℕ) → at + length bytes ≤ length page → (span : Span) (cell : List ℕ) → IsClear at (length bytes) span → IsAt page span cell → IsAt (written_over at bytes page) span cell
+pub clear_stays : (page bytes : List ℕ) (at : ℕ) → at + length bytes ≤ length page → (span : Span) (cell : List ℕ) → IsClear at (length bytes) span → IsAt page span cell → IsAt (written_over at bytes page) span cell
 clear_stays page bytes at within span cell (inl le) is = before_stays page bytes at span cell le is
 clear_stays page bytes at within span cell (inr le) is = after_stays page bytes at span cell within le is
 
@@ -76,29 +77,29 @@ written_stands page bytes old at span within from_is same is =
 -- ---- the spans of the other cells
 
 -- this holds of all but the one at a place
-abbrev Others : ℕ → (Span → Type 0) → List Span → Type 0
+abbrev pub Others : ℕ → (Span → Type 0) → List Span → Type 0
 Others n C [] = ⊤
 Others zero C (span ∷ spans) = AllByRecursion C spans
 Others (suc n) C (span ∷ spans) = C span × Others n C spans
 
 -- it is apart from this one, in either order
-abbrev Beside : Span → Span → Type 0
+abbrev pub Beside : Span → Span → Type 0
 Beside one span = IsApart span one ⊎ IsApart one span
 
 all_at : (P : Span → Type 0) (more before : List Span) (one : Span) → AllByRecursion P (more ++ (one ∷ before)) → P one
 all_at P [] before one all = all.0
 all_at P (span ∷ more) before one all = all_at P more before one all.1
 
-later_apart : (more before spans : List Span) (one : Span) → AreApart (more ++ (one ∷ before)) spans → AllByRecursion (Beside one) spans
+pub later_apart : (more before spans : List Span) (one : Span) → AreApart (more ++ (one ∷ before)) spans → AllByRecursion (Beside one) spans
 later_apart more before [] one apart = tt
 later_apart more before (span ∷ spans) one apart = (inl (all_at (IsApart span) more before one apart.0), later_apart (span ∷ more) before spans one apart.1)
 
 -- each other span is apart from that at a place, and so are those before them all
-record Clear (before spans : List Span) (n : ℕ) : Type 0 where
+pub record Clear (before spans : List Span) (n : ℕ) : Type 0 where
   pub first : AllByRecursion (IsApart (slice_index_or spans n no_span)) before
   pub others : Others n (Beside (slice_index_or spans n no_span)) spans
 
-clear_at : (before spans : List Span) (n : ℕ) → n < length spans → AreApart before spans → Clear before spans n
+pub clear_at : (before spans : List Span) (n : ℕ) → n < length spans → AreApart before spans → Clear before spans n
 clear_at before [] n lt apart = absurd (omega (arith, lt))
 clear_at before (span ∷ spans) zero lt apart = record { first = apart.0; others = later_apart [] before spans span apart.1 }
 clear_at before (span ∷ spans) (suc n) lt apart =
@@ -122,7 +123,7 @@ pair_at P [] (x ∷ xs) old ys all = absurd all
 pair_at P (span ∷ spans) [] old ys all = all.0
 pair_at P (span ∷ spans) (x ∷ xs) old ys all = pair_at P spans xs old ys all.1
 
-pairs_stay : (P Q : Span → List ℕ → Type 0) (C : Span → Type 0) (spans : List Span) (ys : List (List ℕ)) → ((span : Span) (cell : List ℕ) → C span → P span cell → Q span cell) → AllByRecursion C spans → Pairwise P spans ys → Pairwise Q spans ys
+pub pairs_stay : (P Q : Span → List ℕ → Type 0) (C : Span → Type 0) (spans : List Span) (ys : List (List ℕ)) → ((span : Span) (cell : List ℕ) → C span → P span cell → Q span cell) → AllByRecursion C spans → Pairwise P spans ys → Pairwise Q spans ys
 pairs_stay P Q C [] [] f clear all = tt
 pairs_stay P Q C [] (y ∷ ys) f clear all = absurd all
 pairs_stay P Q C (span ∷ spans) [] f clear all = absurd all
@@ -138,7 +139,7 @@ pairs_with P Q C (span ∷ spans) (x ∷ xs) old new ys f others is all = (f spa
 -- ---- the front of the page
 
 -- the page is what stands up to the end of its pointers, and the rest
-record Behind (page fronts new : List ℕ) (front_size : ℕ) : Type 0 where
+pub record Behind (page fronts new : List ℕ) (front_size : ℕ) : Type 0 where
   pub rest : List ℕ
   pub parts : new ≡ fronts ++ rest
   pub long : length new ≡ length page
@@ -154,7 +155,7 @@ over_long page bytes at within = omega (
 )
 
 -- what is written after the front leaves it; and so do no bytes at the page's beginning
-front_stays : (page fronts rest bytes : List ℕ) (at : ℕ) → page ≡ fronts ++ rest → at + length bytes ≤ length page → (at + length bytes ≤ 0) ⊎ (length fronts ≤ at) → Behind page fronts (written_over at bytes page) (length fronts)
+pub front_stays : (page fronts rest bytes : List ℕ) (at : ℕ) → page ≡ fronts ++ rest → at + length bytes ≤ length page → (at + length bytes ≤ 0) ⊎ (length fronts ≤ at) → Behind page fronts (written_over at bytes page) (length fronts)
 front_stays page fronts rest bytes at e within (inl none) =
     let nothing : at ≡ 0 = omega (arith, none) in
     let no_bytes : length bytes ≡ 0 = omega (arith, none) in
@@ -179,7 +180,7 @@ record Replaced (kind : ℕ) (page : List ℕ) (start : ℕ) (right : List ℕ) 
   pub long : length new ≡ length page
   pub front_same : take start new ≡ take start page
 
-beside_clear : (at size : ℕ) (one span : Span) → one.from ≡ at → one.to ≡ at + size → Beside one span → IsClear at size span
+pub beside_clear : (at size : ℕ) (one span : Span) → one.from ≡ at → one.to ≡ at + size → Beside one span → IsClear at size span
 beside_clear at size one span from_is to_is (inl (inl le)) = inl (omega (arith, le, from_is))
 beside_clear at size one span from_is to_is (inl (inr le)) = inr (omega (arith, le, to_is))
 beside_clear at size one span from_is to_is (inr (inl le)) = inr (omega (arith, le, to_is))
@@ -189,7 +190,7 @@ of_front : (one before : Span) (at size : ℕ) (limit : ℕ) → one.from ≡ at
 of_front one before at size limit from_is to_is zero_is end_is (inl le) = inl (omega (arith, le, to_is, zero_is))
 of_front one before at size limit from_is to_is zero_is end_is (inr le) = inr (omega (arith, le, from_is, end_is))
 
-regroup : (before header right pointers rest : List ℕ) → (before ++ (header ++ (right ++ pointers))) ++ rest ≡ before ++ (header ++ (right ++ (pointers ++ rest)))
+pub regroup : (before header right pointers rest : List ℕ) → (before ++ (header ++ (right ++ pointers))) ++ rest ≡ before ++ (header ++ (right ++ (pointers ++ rest)))
 regroup before header right pointers rest = simp append_assoc
 
 page_with : (kind : ℕ) (page : List ℕ) (start : ℕ) (right : List ℕ) (cells : List (List ℕ)) (is : IsTreePage kind page start right cells) (xs : List (List ℕ)) (old new : List ℕ) (ys : List (List ℕ)) (at : ℕ) → cells ≡ xs ++ (old ∷ ys)
@@ -273,9 +274,6 @@ cell_size at page start place size node is over there cell only long =
     let e = (rw over at only) node is (omega (arith, there, node_count page start node is)) in
     ap length (sym e) ∙ long
 
-pub up_to_end : (page : List ℕ) (from : ℕ) → take (length page - from) (drop from page) ≡ drop from page
-up_to_end page from = take_all (length page - from) (drop from page) (omega (arith, length-drop from page))
-
 -- ---- several cells
 
 -- the page has these cells where the one before has its own
@@ -299,10 +297,12 @@ none_yet page out start node is from news same =
     subst (λ (bytes : List ℕ). HasCells page start node is (some_of from 0 news is.cells) bytes) (sym same)
     (subst (λ (cells : List (List ℕ)). HasCells page start node is cells page) (sym own) (has_own page start node is))
 
-pub one_more : (page out written : List ℕ) (start : ℕ) (node : Node) (is : IsNode page start node) (from i place at : ℕ) (news : List (List ℕ)) (new : List ℕ) → HasCells page start node is (some_of from i news is.cells) out
-    → from + length news ≤ length is.cells → i < length news → place ≡ from + i → new ≡ slice_index_or news i [] → IsCellAt page start node is place (length new) at → at + length new ≤ length out → written ≡ written_over at new out
+pub one_more : (page out written : List ℕ) (start : ℕ) (node : Node) (is : IsNode page start node) (from i place : ℕ) (found : CellPlace) (news : List (List ℕ)) (new : List ℕ) → HasCells page start node is (some_of from i news is.cells) out
+    → from + length news ≤ length is.cells → i < length news → place ≡ from + i → new ≡ slice_index_or news i [] → IsCellAt page start node is place found → found.end - found.at ≡ length new → found.at + length new ≤ length out → written ≡ written_over found.at new out
     → HasCells page start node is (some_of from (i + 1) news is.cells) written
-one_more page out written start node is from i place at news new has within lt place_is new_is cell fits written_is =
+one_more page out written start node is from i place found news new has within lt place_is new_is cell same fits written_is =
+    let at = found.at in
+    let long : length (slice_index_or is.cells place []) ≡ length new = omega (arith, same, cell.long) in
     let cells = is.cells in
     let old = slice_index_or cells place [] in
     let ys = drop (place + 1) cells in
@@ -313,7 +313,7 @@ one_more page out written start node is from i place at news new has within lt p
     let xs_size : length xs ≡ place = omega (arith, length-append (take from cells) (take i news), length-take-le from cells (omega (arith, within)), length-take-le i news (omega (arith, lt)), place_is) in
     let offset : (slice_index_or has.now.spans (length xs) no_span).from ≡ at =
     ap (λ (n : ℕ). (slice_index_or has.now.spans n no_span).from) xs_size ∙ ap (λ (spans : List Span). (slice_index_or spans place no_span).from) has.spans_stay ∙ cell.offset in
-    let next = page_with (code_of node) out start (right_of node) (some_of from i news cells) has.now xs old new ys at cells_are cell.long offset fits in
+    let next = page_with (code_of node) out start (right_of node) (some_of from i news cells) has.now xs old new ys at cells_are long offset fits in
     let one_less : from + (i + 1) ≡ place + 1 = omega (arith, place_is) in
     let more : take (i + 1) news ≡ take i news ++ (new ∷ []) = take_more news i [] lt ∙ ap (λ (x : List ℕ). take i news ++ (x ∷ [])) (sym new_is) in
     let cells_now : some_of from (i + 1) news cells ≡ xs ++ (new ∷ ys) =

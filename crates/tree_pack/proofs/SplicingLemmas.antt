@@ -115,6 +115,15 @@ spliced_one from count cells [] none zero some few = absurd (omega (arith, some)
 spliced_one from count cells (cell ∷ []) none zero some few = ap (λ (n : ℕ). take from cells ++ cell.now ∷ drop n cells) (omega (arith, zero))
 spliced_one from count cells (cell ∷ other ∷ more) none zero some few = absurd (omega (arith, few))
 
+pub no_cells : (more : List (Bor (List ℕ))) → length more < 1 → bytes_of more ≡ []
+no_cells [] few = refl
+no_cells (cell ∷ more) few = absurd (omega (arith, few))
+
+pub one_cell : (more : List (Bor (List ℕ))) (none : Bor (List ℕ)) → 1 ≤ length more → length more < 2 → bytes_of more ≡ (get_or more 0 none).now ∷ []
+one_cell [] none some few = absurd (omega (arith, some))
+one_cell (cell ∷ []) none some few = refl
+one_cell (cell ∷ other ∷ more) none some few = absurd (omega (arith, few))
+
 -- what the code compares
 pub same_last : (a b : Option ℕ) → option_eq eqb a b ≡ true → a ≡ b
 same_last None None e = refl

@@ -8,3 +8,4 @@ pub mod Splicing
 pub mod Spreading
 pub mod Placing
 pub mod Replacing
+pub mod Removing

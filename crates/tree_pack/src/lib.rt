@@ -6,6 +6,7 @@ mod cells;
 mod cutting;
 mod laws;
 mod placing;
+mod removing;
 mod replacing;
 mod splicing;
 mod spreading;

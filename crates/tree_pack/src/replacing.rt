@@ -2,7 +2,7 @@
 
 ghost use Rattle.std.specs.Prelude.{◌≡◌, ◌+◌, ◌≤◌, length, map, IfErr, IfSome, IsTrue};
 ghost use Rattle.tree_page.specs.Node.{Node, IsNode};
-ghost use Rattle.tree_pack.specs.Replacing.{IsCellAt, written_over};
+ghost use Rattle.tree_pack.specs.Replacing.{IsCellAt, IsPlaceOn, written_over};
 ghost use Rattle.tree_pack.specs.Splicing.{SplicesOne};
 
 use crate::placing::right_len;
@@ -10,31 +10,58 @@ use sqlval::{Fault, R};
 use std::alloc::Global;
 use tree_page::TreePage;
 
-/// Where the cell at a place of a page begins, if it has so many bytes. None also for a page that says nothing, or has no such cell.
-fn offset_of(page: &[u8], start: usize, place: usize, size: usize) -> Option<usize>
-    ensures { (node : Node) (is : IsNode page.now start node)
-        → IfSome result (λ at. IsCellAt page.now start node is place size at) }
+/// Where a cell of a page lies.
+#[derive(Clone, Copy)]
+pub(crate) struct CellPlace {
+    /// Where its pointer stands.
+    pub pointer: usize,
+    /// Where the pointers of all cells end.
+    pub last: usize,
+    /// How many cells there are.
+    pub count: usize,
+    /// Where the cell begins.
+    pub at: usize,
+    /// Where it ends.
+    pub end: usize,
+}
+
+/// Where the cell at a place of a page lies. None also for a page that says nothing, or has no such cell.
+pub(crate) fn cell_at(page: &[u8], start: usize, place: usize) -> Option<CellPlace>
+    ensures found { (node : Node) (is : IsNode page.now start node)
+        → IfSome result (λ found. IsCellAt page.now start node is place found) }
+    ensures on_page { IfSome result (IsPlaceOn start (length page.now)) }
 {
     let Ok(tree) = TreePage::over(page, start) else {
         return None;
     };
-    if page.len() < start || place >= tree.len().min(65535) {
+    let count = tree.len();
+    if page.len() < start || count > 65535 || place >= count {
         return None;
     }
     let Ok(cell) = tree.cell(place) else {
         return None;
     };
-    let pointer = start + 8 + right_len(tree.kind()) + 2 * place;
-    match page.get(pointer..)? {
-        [high, low, ..] if cell.len() == size => {
-            Some(usize::from(u16::from_be_bytes([*high, *low])))
+    let first = start + 8 + right_len(tree.kind());
+    let pointer = first + 2 * place;
+    let last = first + 2 * count;
+    match page.get(pointer..last)? {
+        [high, low, ..] => {
+            let at = usize::from(u16::from_be_bytes([*high, *low]));
+            let end = at + cell.len();
+            Some(CellPlace {
+                pointer,
+                last,
+                count,
+                at,
+                end,
+            })
         }
         _ => None,
     }
 }
 
 /// Writes bytes over those of a page from an offset on. Answers `false` where it ends before: then nothing changes.
-fn write_over(page: &mut Vec<u8>, at: usize, bytes: &[u8]) -> bool
+pub(crate) fn write_over(page: &mut Vec<u8>, at: usize, bytes: &[u8]) -> bool
     ensures fits { IsTrue result → at + length bytes.now ≤ length page.old.items }
     ensures written { IsTrue result → page.new.items ≡ written_over at bytes.now page.old.items }
 {
@@ -61,10 +88,14 @@ pub(crate) fn replace_cells(
     'cells: for index in 0..cells.len() {
         let cell = cells[index];
         let place = from.saturating_add(index);
-        let Some(at) = offset_of(page, start, place, cell.len()) else {
+        let Some(there) = cell_at(page, start, place) else {
             return Ok(None);
         };
-        if !write_over(&mut out, at, cell) {
+        let size = there.end.saturating_sub(there.at);
+        if size != cell.len() {
+            return Ok(None);
+        }
+        if !write_over(&mut out, there.at, cell) {
             return Ok(None);
         }
     }

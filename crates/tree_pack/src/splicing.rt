@@ -1,11 +1,12 @@
 //! Putting other cells in the place of some of a page's, and the cells of two pages onto one.
 
-ghost use Rattle.std.specs.Prelude.{◌≡◌, ◌⊎◌, ◌≤◌, ◌-◌, ◌++◌, length, map, take, drop, IfErr, MatchResult};
+ghost use Rattle.std.specs.Prelude.{◌≡◌, ◌⊎◌, ◌≤◌, ◌-◌, ◌++◌, ◌∷◌, [], length, map, take, drop, IfErr, MatchResult};
 ghost use Rattle.tree_page.specs.Node.{Node, IsNode};
 ghost use Rattle.tree_pack.specs.Building.{right_bytes};
 ghost use Rattle.tree_pack.specs.Splicing.{Splices, SplicesOne, Joins};
 
 use crate::place_cell;
+use crate::removing::remove_cell;
 use crate::replacing::replace_cells;
 use crate::spreading::{Packed, pack};
 use sqlval::{Damage, Fault, R};
@@ -55,6 +56,27 @@ fn cells_around<'a>(
     Ok(all)
 }
 
+/// The page with a cell in the place of another: written over it, if it is as long, else put where there is room without moving any.
+/// (`Memory` alone.)
+fn exchange_cell(
+    alloc: Global,
+    page: &[u8],
+    start: usize,
+    place: usize,
+    cell: &[u8],
+) -> R<Option<Vec<u8>>>
+    ensures exchanged { SplicesOne page.now start place 1 (cell.now ∷ []) result }
+    ensures refused { IfErr result (λ fault. fault ≡ Fault.Memory) }
+{
+    if let Some(same) = replace_cells(alloc, page, start, place, &[cell])? {
+        return Ok(Some(same));
+    }
+    match remove_cell(alloc, page, start, place)? {
+        Some(without) => place_cell(alloc, &without, start, place, cell),
+        None => Ok(None),
+    }
+}
+
 /// The page with one cell more, where no other gives way to it, and there is room without moving any; or with cells in the places of
 /// others that are as long. (`Memory` alone.)
 fn splice_in_place(
@@ -70,6 +92,8 @@ fn splice_in_place(
 {
     match cells {
         [cell] if count == 0 => place_cell(alloc, page, start, from, cell),
+        [cell] if count == 1 => exchange_cell(alloc, page, start, from, cell),
+        [] if count == 1 => remove_cell(alloc, page, start, from),
         _ if count == cells.len() => replace_cells(alloc, page, start, from, cells),
         _ => Ok(None),
     }

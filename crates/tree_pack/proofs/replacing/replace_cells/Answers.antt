@@ -20,10 +20,12 @@ cells-preserved c =
     let place_is : c.saturating_add-place.result ≡ c.args.from + i = omega (arith, sum, lt, within, few) in
     let cell = slice_index_or cells i (record { ref_ptr = (0, 0); now = [] }) in
     let fits = c.if-not-write_over.ensures.fits refl in
-    let at = c.in-Some.at in (
+    let there = c.in-Some.there in
+    let same = c.if-size-cell.false in
+    let size = c.saturating_sub-size.ensures in (
       omega (arith, lt),
-      one_more c.args.page.now c.cells.out.items c.write_over.new.page.items c.args.start node is c.args.from i c.saturating_add-place.result at news cell.now here.1 (omega (arith, within, count)) (omega (arith, lt, count)) place_is
-          (sym (get_or-map (λ cell. cell.now) cells i (record { ref_ptr = (0, 0); now = [] }) [] lt)) (c.in-Some.ensures node is) fits
+      one_more c.args.page.now c.cells.out.items c.write_over.new.page.items c.args.start node is c.args.from i c.saturating_add-place.result there news cell.now here.1 (omega (arith, within, count)) (omega (arith, lt, count)) place_is
+          (sym (get_or-map (λ cell. cell.now) cells i (record { ref_ptr = (0, 0); now = [] }) [] lt)) (c.in-Some.ensures.found node is) (omega (arith, same, size)) fits
           (c.if-not-write_over.ensures.written refl),
     )
 
