@@ -126,7 +126,8 @@ class Image:
 
     def __init__(self, db, log):
         self.db, self.log = bytearray(db), bytearray(log)
-        self.size = number(db, 16, 2)
+        size = number(db, 16, 2)
+        self.size = 65536 if size == 1 else size
 
     def copy(self):
         return Image(self.db, self.log)

@@ -51,7 +51,7 @@ static void refusals(kinolavust *db) {
   CHECK(run(db, 0, "SELECT 1") == 11 && run(db, 17, "SELECT 1") == 11 && run(db, 4294967295u, "SELECT 1") == 11);
   CHECK(run(db, 1, "SELECT '\xff'") == 11);
   CHECK(kinolavust_execute(db, 1, NULL, 9, NULL) == 7 && run(db, 1, "") == 7);
-  CHECK(strcmp(kinolavust_name(-1), "unknown") == 0 && strcmp(kinolavust_name(30), "unknown") == 0);
+  CHECK(strcmp(kinolavust_name(-1), "unknown") == 0 && strcmp(kinolavust_name(31), "unknown") == 0);
 }
 
 /* An expression may have a depth of 100. */

@@ -1,9 +1,24 @@
-/* Commits 1, 2, 3, .. in rows of one table, with a checkpoint in the fifth place, says what each call answered, and goes on after
- * refusals; then says which rows there are. */
+/* Commits 1, 2, 3, .. in rows of one table, the even ones by a prepared statement, with a checkpoint in the fifth place, says what each call
+ * answered, and goes on after refusals; then says which rows there are. */
 #include "kinolavust.h"
 #include <inttypes.h>
 #include <stdio.h>
 #include <string.h>
+
+static int by_text(kinolavust *db, int row) {
+  char sql[100];
+  int len = row == 5 ? snprintf(sql, sizeof sql, "PRAGMA wal_checkpoint") : snprintf(sql, sizeof sql, "INSERT INTO t VALUES (%d)", row);
+  return kinolavust_execute(db, 1, sql, (size_t)len, NULL);
+}
+
+static int by_statement(kinolavust *db, int row) {
+  kinolavust_statement *it;
+  int refused = kinolavust_prepare(db, "INSERT INTO t VALUES (?)", 24, &it);
+  if (!refused) refused = kinolavust_bind_integer(it, 1, row);
+  if (!refused) refused = kinolavust_run(it, 1, NULL);
+  kinolavust_finish(it);
+  return refused;
+}
 
 int main(int count, char **words) {
   kinolavust *db;
@@ -16,9 +31,7 @@ int main(int count, char **words) {
   }
   kinolavust_execute(db, 1, "CREATE TABLE t(a INTEGER)", 25, NULL);
   for (int i = 1; i <= 8; i++) {
-    char sql[100];
-    int len = i == 5 ? snprintf(sql, sizeof sql, "PRAGMA wal_checkpoint") : snprintf(sql, sizeof sql, "INSERT INTO t VALUES (%d)", i);
-    printf("%d:%d ", i, kinolavust_execute(db, 1, sql, (size_t)len, NULL));
+    printf("%d:%d ", i, i % 2 ? by_text(db, i) : by_statement(db, i));
     fflush(stdout);
   }
   kinolavust_rows *rows;

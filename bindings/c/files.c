@@ -23,14 +23,18 @@ extern uint32_t kinolavust_session_open(const uint8_t *db, size_t db_len, const 
                                         uint32_t page_size, uint32_t first_salt, uint32_t second_salt, uint8_t *refusal,
                                         size_t refusal_len, session *out);
 extern uint32_t kinolavust_session_execute(session it, uint32_t connection, const uint8_t *text, size_t len, session *out);
+extern uint32_t kinolavust_session_prepare(session it, const uint8_t *text, size_t len, size_t *slot, size_t *count, session *out);
+extern uint32_t kinolavust_session_run(session it, uint32_t connection, size_t slot, const uint8_t *values, size_t len,
+                                       session *out);
+extern uint32_t kinolavust_session_finish(session it, size_t slot, session *out);
 extern size_t kinolavust_session_reply_len(session it, session *out);
 extern bool kinolavust_session_reply(session it, uint8_t *bytes, size_t len, session *out);
 extern size_t kinolavust_session_journal_len(session it, session *out);
 extern bool kinolavust_session_journal(session it, uint8_t *bytes, size_t len, session *out);
 extern void kinolavust_session_close(session it);
 
-enum { MEMORY = 1, IO = 2, MISUSE = 11, BUSY = 12, FAILED = 28 };
-enum { DEFAULT_PAGE_SIZE = 4096, REFUSAL_LEN = 512, CHANGE_LEN = 18 };
+enum { MEMORY = 1, IO = 2, SYNTAX = 7, MISUSE = 11, BUSY = 12, FAILED = 28 };
+enum { DEFAULT_PAGE_SIZE = 4096, REFUSAL_LEN = 512, MAX_STATEMENT_BYTES = 65536, MAX_PARAMETERS = 32766 };
 #define DEFAULT_SALTS UINT64_C(0x0000000100000002)
 
 struct kinolavust {
@@ -42,6 +46,7 @@ struct kinolavust {
   uint64_t place;
   char *message, *subject; /* NULL: none */
   size_t subject_len;
+  kinolavust_statement *statements; /* those that aren't finished */
 };
 
 /* ---- bytes */
@@ -143,7 +148,7 @@ const char *kinolavust_name(int number) {
       "Syntax",      "NoSuch",     "Exists",       "Ambiguous",    "Misuse",           "Busy",         "StaleSnapshot",
       "NoTransaction", "InTransaction", "NoSavepoint", "NotNull",  "Unique",           "Check",        "Raised",
       "RealRefused", "TypeRefused", "RowidFull",   "RowidMismatch", "TooLong",         "RowChangedBefore", "ViewReadOnly",
-      "Failed",      "Blank"};
+      "Failed",      "Blank",       "Journal"};
   return number >= 0 && number < (int)(sizeof names / sizeof *names) ? names[number] : "unknown";
 }
 
@@ -284,8 +289,11 @@ int kinolavust_open(const char *path, const kinolavust_options *options, kinolav
   return open_database(db, path, options);
 }
 
+static void leave_statements(kinolavust *db);
+
 void kinolavust_close(kinolavust *db) {
   if (!db || !pthread_equal(db->thread, pthread_self())) return;
+  leave_statements(db);
   if (db->it.at) kinolavust_session_close(db->it);
   if (db->log >= 0) close(db->log);
   if (db->db >= 0) close(db->db);
@@ -415,15 +423,372 @@ static int give_rows(kinolavust *db, kinolavust_rows **out) {
   return *out ? 0 : refuse_memory(db);
 }
 
-int kinolavust_execute(kinolavust *db, unsigned connection, const char *sql, size_t len, kinolavust_rows **out) {
-  if (out) *out = NULL;
+/* Begins a call: 0, or why it is refused. */
+static int begin_call(kinolavust *db) {
   if (!db || !pthread_equal(db->thread, pthread_self())) return MISUSE;
   if (!db->it.at) return refuse(db, MISUSE, "the database isn't open");
   if (db->has_failed) return refuse(db, FAILED, "an earlier write to the files failed: open the database again");
   forget_refusal(db);
-  const char *text = sql ? sql : "";
-  uint32_t refused = kinolavust_session_execute(db->it, connection, (const uint8_t *)text, sql ? len : 0, &db->it);
+  return 0;
+}
+
+/* Carries out what a statement has changed, and gives its rows, or keeps its refusal. */
+static int end_call(kinolavust *db, uint32_t refused, kinolavust_rows **out) {
   if (!carry_out(db)) return refuse(db, IO, "a write to the files failed: %s", strerror(errno));
   if (refused) return refuse_statement(db, (int)refused);
   return out ? give_rows(db, out) : 0;
+}
+
+int kinolavust_execute(kinolavust *db, unsigned connection, const char *sql, size_t len, kinolavust_rows **out) {
+  if (out) *out = NULL;
+  int number = begin_call(db);
+  if (number) return number;
+  const char *text = sql ? sql : "";
+  uint32_t refused = kinolavust_session_execute(db->it, connection, (const uint8_t *)text, sql ? len : 0, &db->it);
+  return end_call(db, refused, out);
+}
+
+/* ---- parameters: the engine takes the quoted name "?1" for the first, so each is written as that */
+
+/* A parameter: where it stands in a statement's text, where it was written, and its number. */
+typedef struct { size_t at, len, written_at, written_len, number; } parameter;
+
+/* The parameters of a text, in their order. */
+typedef struct {
+  char *sql;
+  size_t len;
+  parameter *all;
+  size_t count, greatest;
+} parameters;
+
+static bool is_of_word(char byte) {
+  unsigned char it = (unsigned char)byte;
+  return (it >= 'a' && it <= 'z') || (it >= 'A' && it <= 'Z') || (it >= '0' && it <= '9') || it == '_' || it == '$' || it >= 0x80;
+}
+
+/* The bytes of a word from a place on. */
+static size_t word_len(const char *sql, size_t len, size_t at) {
+  size_t end = at;
+  while (end < len && is_of_word(sql[end])) end++;
+  return end - at;
+}
+
+/* The bytes from a place up to an ending, which is looked for after the first bytes; without one, all that are left. */
+static size_t len_up_to(const char *sql, size_t len, size_t at, size_t first, const char *ending) {
+  if (at + first > len) return len - at;
+  const char *end = memmem(sql + at + first, len - at - first, ending, strlen(ending));
+  return end ? (size_t)(end - sql) - at + strlen(ending) : len - at;
+}
+
+/* The bytes of what stands at a place and is no parameter: a quoted text, a comment, a word, or a byte. */
+static size_t other_len(const char *sql, size_t len, size_t at) {
+  char next = at + 1 < len ? sql[at + 1] : 0;
+  size_t word = word_len(sql, len, at);
+  switch (sql[at]) {
+    case '\'': return len_up_to(sql, len, at, 1, "'");
+    case '"': return len_up_to(sql, len, at, 1, "\"");
+    case '`': return len_up_to(sql, len, at, 1, "`");
+    case '[': return len_up_to(sql, len, at, 1, "]");
+    case '-': return next == '-' ? len_up_to(sql, len, at, 2, "\n") : 1;
+    case '/': return next == '*' ? len_up_to(sql, len, at, 2, "*/") : 1;
+    default: return word ? word : 1;
+  }
+}
+
+/* The number of an earlier parameter of this name, or 0. */
+static size_t number_of_name(const parameters *it, const char *name, size_t len) {
+  for (size_t i = 0; i < it->count; i++)
+    if (it->all[i].len == len && memcmp(it->sql + it->all[i].at, name, len) == 0) return it->all[i].number;
+  return 0;
+}
+
+/* The number N of ?N, or the next one of a ?. */
+static size_t number_of_mark(const parameters *it, size_t at, size_t *len) {
+  size_t number = 0, end = at + 1;
+  for (; end < it->len && it->sql[end] >= '0' && it->sql[end] <= '9'; end++)
+    if (number <= MAX_PARAMETERS) number = number * 10 + (size_t)(it->sql[end] - '0');
+  *len = end - at;
+  return *len == 1 ? it->greatest + 1 : number;
+}
+
+/* The parameter at a place: ?, ?N, :name, @name or $name. Its number is 0 where none stands there, and past 32,766. */
+static parameter parameter_at(const parameters *it, size_t at) {
+  parameter found = {at, 0, 0, 0, 0};
+  char mark = it->sql[at];
+  if (mark == '?') found.number = number_of_mark(it, at, &found.len);
+  if (mark == ':' || mark == '@' || mark == '$') {
+    found.len = 1 + word_len(it->sql, it->len, at + 1);
+    size_t same = found.len > 1 ? number_of_name(it, it->sql + at, found.len) : 0;
+    found.number = same ? same : found.len > 1 ? it->greatest + 1 : 0;
+  }
+  if (found.number > MAX_PARAMETERS) found.number = 0;
+  return found;
+}
+
+/* Finds the parameters of a text. */
+static void find_parameters(parameters *it) {
+  for (size_t at = 0; at < it->len;) {
+    parameter found = parameter_at(it, at);
+    if (found.number) {
+      it->all[it->count++] = found;
+      if (found.number > it->greatest) it->greatest = found.number;
+    }
+    at += found.number ? found.len : other_len(it->sql, it->len, at);
+  }
+}
+
+/* How many parameters a text has at most. (Of one that is too long they aren't looked for.) */
+static size_t most_parameters(const char *sql, size_t len) {
+  size_t count = 0;
+  for (size_t at = 0; len <= MAX_STATEMENT_BYTES && at < len; at++) count += strchr("?:@$", sql[at]) && sql[at];
+  return count;
+}
+
+/* Copies a text, and finds its parameters. Whether there was memory. */
+static bool take_parameters(parameters *it, const char *sql, size_t len) {
+  size_t most = most_parameters(sql, len);
+  it->sql = copied((const uint8_t *)sql, len);
+  it->len = len;
+  it->all = calloc(most + 1, sizeof *it->all);
+  if (!it->sql || !it->all) return false;
+  if (most) find_parameters(it);
+  return true;
+}
+
+static void leave_parameters(parameters *it) {
+  free(it->sql);
+  free(it->all);
+}
+
+/* The text with "?1", "?2" and so on for its parameters, apart from other quotes. NULL if there is no memory. */
+static char *engine_text(parameters *it, size_t *len) {
+  enum { MOST = sizeof " \"?32766\" " };
+  char *text = malloc(it->len + it->count * MOST + 1);
+  size_t begun = 0, end = 0;
+  for (size_t i = 0; text && i < it->count; i++) {
+    parameter *at = &it->all[i];
+    memcpy(text + end, it->sql + begun, at->at - begun);
+    end += at->at - begun;
+    begun = at->at + at->len;
+    at->written_at = end;
+    const char *before = end && text[end - 1] == '"' ? " " : "", *after = begun < it->len && it->sql[begun] == '"' ? " " : "";
+    at->written_len = (size_t)snprintf(text + end, MOST, "%s\"?%zu\"%s", before, at->number, after);
+    end += at->written_len;
+  }
+  if (text) memcpy(text + end, it->sql + begun, it->len - begun);
+  *len = end + it->len - begun;
+  return text;
+}
+
+/* Where the text has what stands at a place of the text that the engine read. */
+static uint64_t place_before(const parameters *it, uint64_t place) {
+  uint64_t at = place;
+  for (size_t i = 0; i < it->count && it->all[i].written_at <= place; i++) {
+    const parameter *of = &it->all[i];
+    if (place < of->written_at + of->written_len) return of->at;
+    at = of->at + of->len + (place - of->written_at - of->written_len);
+  }
+  return at;
+}
+
+/* ---- prepared statements */
+
+typedef struct { uint8_t *bytes; size_t len; int64_t number; int kind; } bound_value;
+
+struct kinolavust_statement {
+  kinolavust *db; /* NULL: it was closed */
+  pthread_t thread;
+  kinolavust_statement *before, *after; /* of the same database */
+  parameters parameters;
+  size_t slot, count;
+  bound_value *values;
+};
+
+static void free_statement(kinolavust_statement *it) {
+  for (size_t i = 0; it->values && i < it->count; i++) free(it->values[i].bytes);
+  free(it->values);
+  leave_parameters(&it->parameters);
+  free(it);
+}
+
+static void link_statement(kinolavust *db, kinolavust_statement *it) {
+  it->after = db->statements;
+  if (it->after) it->after->before = it;
+  db->statements = it;
+}
+
+static void unlink_statement(kinolavust_statement *it) {
+  if (it->after) it->after->before = it->before;
+  if (it->before)
+    it->before->after = it->after;
+  else
+    it->db->statements = it->after;
+}
+
+/* The statements of a database that is closed are there until they are finished. */
+static void leave_statements(kinolavust *db) {
+  for (kinolavust_statement *it = db->statements; it; it = it->after) it->db = NULL;
+}
+
+/* Keeps the refusal of a statement that was to be prepared: its place is one of the text as it was given. */
+static int refuse_text(kinolavust *db, int number, const parameters *it) {
+  refuse_statement(db, number);
+  if (number != SYNTAX || it->count == 0) return number;
+  uint64_t place = place_before(it, db->place);
+  refuse(db, SYNTAX, "syntax error at byte %llu", (unsigned long long)place);
+  db->place = place;
+  return number;
+}
+
+/* Has the engine read the statement, into a slot. */
+static int fill_slot(kinolavust *db, kinolavust_statement *it) {
+  size_t len;
+  char *text = engine_text(&it->parameters, &len);
+  if (!text) return refuse_memory(db);
+  uint32_t refused = kinolavust_session_prepare(db->it, (const uint8_t *)text, len, &it->slot, &it->count, &db->it);
+  free(text);
+  return refused ? refuse_text(db, (int)refused, &it->parameters) : 0;
+}
+
+/* Makes room for the values of a statement that has its slot. */
+static int make_places(kinolavust *db, kinolavust_statement *it) {
+  if (it->parameters.greatest > it->count) return refuse(db, MISUSE, "a parameter stands where no value may");
+  it->values = calloc(it->count + 1, sizeof *it->values);
+  return it->values ? 0 : refuse_memory(db);
+}
+
+static int prepare(kinolavust *db, kinolavust_statement *it, const char *sql, size_t len) {
+  it->db = db;
+  it->thread = db->thread;
+  if (!take_parameters(&it->parameters, sql, len)) return refuse_memory(db);
+  int refused = fill_slot(db, it);
+  if (refused) return refused;
+  refused = make_places(db, it);
+  if (refused) kinolavust_session_finish(db->it, it->slot, &db->it);
+  return refused;
+}
+
+int kinolavust_prepare(kinolavust *db, const char *sql, size_t len, kinolavust_statement **out) {
+  if (out) *out = NULL;
+  int refused = begin_call(db);
+  if (refused) return refused;
+  if (!out) return refuse(db, MISUSE, "a statement is given to its caller");
+  kinolavust_statement *it = calloc(1, sizeof *it);
+  if (!it) return refuse_memory(db);
+  refused = prepare(db, it, sql ? sql : "", sql ? len : 0);
+  if (refused) {
+    free_statement(it);
+    return refused;
+  }
+  link_statement(db, it);
+  *out = it;
+  return 0;
+}
+
+size_t kinolavust_parameter_count(const kinolavust_statement *it) { return it ? it->count : 0; }
+
+const char *kinolavust_parameter_name(const kinolavust_statement *it, size_t place, size_t *len) {
+  if (len) *len = 0;
+  for (size_t i = 0; it && i < it->parameters.count; i++) {
+    const parameter *at = &it->parameters.all[i];
+    if (at->number != place || at->len == 1) continue;
+    if (len) *len = at->len;
+    return it->parameters.sql + at->at;
+  }
+  return NULL;
+}
+
+size_t kinolavust_parameter_place(const kinolavust_statement *it, const char *name, size_t len) {
+  return it && name && len > 1 ? number_of_name(&it->parameters, name, len) : 0;
+}
+
+/* The value of a place, to be given anew; NULL where it is refused. */
+static bound_value *value_of_place(kinolavust_statement *it, size_t place) {
+  if (!it || !it->db || !pthread_equal(it->thread, pthread_self())) return NULL;
+  forget_refusal(it->db);
+  if (place >= 1 && place <= it->count) return &it->values[place - 1];
+  refuse(it->db, MISUSE, "the statement has no parameter %zu", place);
+  return NULL;
+}
+
+static int bind_number(kinolavust_statement *it, size_t place, int kind, int64_t number) {
+  bound_value *to = value_of_place(it, place);
+  if (!to) return MISUSE;
+  free(to->bytes);
+  *to = (bound_value){NULL, 0, number, kind};
+  return 0;
+}
+
+static int bind_bytes(kinolavust_statement *it, size_t place, int kind, const void *bytes, size_t len) {
+  if (!bytes) return bind_number(it, place, KINOLAVUST_NULL, 0);
+  bound_value *to = value_of_place(it, place);
+  if (!to) return MISUSE;
+  uint8_t *copy = (uint8_t *)copied(bytes, len);
+  if (!copy) return refuse_memory(it->db);
+  free(to->bytes);
+  *to = (bound_value){copy, len, 0, kind};
+  return 0;
+}
+
+int kinolavust_bind_null(kinolavust_statement *it, size_t place) { return bind_number(it, place, KINOLAVUST_NULL, 0); }
+
+int kinolavust_bind_integer(kinolavust_statement *it, size_t place, int64_t number) {
+  return bind_number(it, place, KINOLAVUST_INTEGER, number);
+}
+
+int kinolavust_bind_text(kinolavust_statement *it, size_t place, const char *text, size_t len) {
+  return bind_bytes(it, place, KINOLAVUST_TEXT, text, len);
+}
+
+int kinolavust_bind_blob(kinolavust_statement *it, size_t place, const void *bytes, size_t len) {
+  return bind_bytes(it, place, KINOLAVUST_BLOB, bytes, len);
+}
+
+/* How many bytes a value takes: its kind, and its number, or its count and its bytes. */
+static size_t value_len(const bound_value *it) { return it->kind == KINOLAVUST_NULL ? 1 : it->bytes ? 9 + it->len : 9; }
+
+static uint8_t *put_number(uint8_t *at, uint64_t number) {
+  for (int bits = 56; bits >= 0; bits -= 8) *at++ = (uint8_t)(number >> bits);
+  return at;
+}
+
+static uint8_t *put_value(uint8_t *at, const bound_value *it) {
+  *at++ = (uint8_t)it->kind;
+  if (it->kind == KINOLAVUST_NULL) return at;
+  if (!it->bytes) return put_number(at, (uint64_t)it->number);
+  at = put_number(at, it->len);
+  memcpy(at, it->bytes, it->len);
+  return at + it->len;
+}
+
+/* The values of a statement as bytes; NULL if there is no memory. */
+static uint8_t *bytes_of_values(const kinolavust_statement *it, size_t *len) {
+  *len = 0;
+  for (size_t i = 0; i < it->count; i++) *len += value_len(&it->values[i]);
+  uint8_t *bytes = malloc(*len + 1), *end = bytes;
+  for (size_t i = 0; bytes && i < it->count; i++) end = put_value(end, &it->values[i]);
+  return bytes;
+}
+
+int kinolavust_run(kinolavust_statement *it, unsigned connection, kinolavust_rows **out) {
+  if (out) *out = NULL;
+  int number = it && pthread_equal(it->thread, pthread_self()) ? begin_call(it->db) : MISUSE;
+  if (number) return number;
+  kinolavust *db = it->db;
+  size_t len;
+  uint8_t *values = bytes_of_values(it, &len);
+  if (!values) return refuse_memory(db);
+  uint32_t refused = kinolavust_session_run(db->it, connection, it->slot, values, len, &db->it);
+  free(values);
+  return end_call(db, refused, out);
+}
+
+void kinolavust_finish(kinolavust_statement *it) {
+  if (!it || !pthread_equal(it->thread, pthread_self())) return;
+  kinolavust *db = it->db;
+  if (db) {
+    kinolavust_session_finish(db->it, it->slot, &db->it);
+    unlink_statement(it);
+  }
+  free_statement(it);
 }

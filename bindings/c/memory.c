@@ -1,5 +1,6 @@
 /* Each allocation fails once, one in each round: the call under way answers E1, and the same call again is carried out, or E2, where a change
- * of the files found no memory; then opening again shows each row that was answered 0. Of statements that set triggers of each kind off too:
+ * of the files found no memory; then opening again shows each row that was answered 0. A round executes texts, or prepares statements, gives
+ * them values and runs them. Of statements that set triggers of each kind off too:
  * refused, they have changed nothing, neither their own table nor those that triggers change. Link it with --wrap of the three functions below.
  * Ends with 'memory: N passed, N failed'. */
 #include "kinolavust.h"
@@ -61,19 +62,53 @@ static int64_t rows_of(const char *path) {
   return count;
 }
 
+/* Prepares a statement, and again where an allocation failed. */
+static int prepare(kinolavust *db, const char *sql, kinolavust_statement **it) {
+  int refused = kinolavust_prepare(db, sql, strlen(sql), it);
+  return refused == MEMORY ? kinolavust_prepare(db, sql, strlen(sql), it) : refused;
+}
+
+/* Gives a statement values, and runs it, each again where an allocation failed. */
+static int run_with(kinolavust_statement *it, const char *text, kinolavust_rows **rows) {
+  int refused = kinolavust_bind_integer(it, 1, 1);
+  if (!refused) refused = kinolavust_bind_text(it, 2, text, strlen(text));
+  if (refused == MEMORY) refused = kinolavust_bind_text(it, 2, text, strlen(text));
+  if (!refused) refused = kinolavust_run(it, 1, rows);
+  return refused == MEMORY ? kinolavust_run(it, 1, rows) : refused;
+}
+
+/* The two calls of a round, by texts or by statements that are prepared for each. */
+static int insert(kinolavust *db, int is_prepared) {
+  if (!is_prepared) return run(db, "INSERT INTO t VALUES (1, 'some text')", NULL);
+  kinolavust_statement *it;
+  int refused = prepare(db, "INSERT INTO t VALUES (?, :text)", &it);
+  if (!refused) refused = run_with(it, "some text", NULL);
+  kinolavust_finish(it);
+  return refused;
+}
+
+static int query(kinolavust *db, int is_prepared, kinolavust_rows **rows) {
+  if (!is_prepared) return run(db, "SELECT a, b FROM t", rows);
+  kinolavust_statement *it;
+  int refused = prepare(db, "SELECT a, b FROM t WHERE a = ? AND b = ?", &it);
+  if (!refused) refused = run_with(it, "some text", rows);
+  kinolavust_finish(it);
+  return refused;
+}
+
 /* A round. Whether it went as the head of this file says. */
-static int is_well(const char *path) {
+static int is_well(const char *path, int is_prepared) {
   kinolavust *db = opened(path);
   if (!db) return 0;
   int64_t answered = 0, under_way = 0;
   int refused = run(db, "CREATE TABLE t(a INTEGER, b TEXT)", NULL);
   for (int row = 0; row < ROWS && !refused; row++) {
-    refused = run(db, "INSERT INTO t VALUES (1, 'some text')", NULL);
+    refused = insert(db, is_prepared);
     answered += refused == 0;
     under_way = refused == IO;
   }
   kinolavust_rows *rows = NULL;
-  int asked = run(db, "SELECT a, b FROM t", &rows);
+  int asked = query(db, is_prepared, &rows);
   int holds = refused == IO ? asked == FAILED || asked == 0 || asked == NO_SUCH
                             : refused == 0 && asked == 0 && kinolavust_row_count(rows) == ROWS;
   kinolavust_free(rows);
@@ -184,16 +219,23 @@ static void start_anew(const char *path, const char *log) {
   unlink(log);
 }
 
+/* Rounds until no allocation fails any more. */
+static void rounds(const char *path, const char *log, int is_prepared) {
+  long allocation = 0;
+  do {
+    start_anew(path, log);
+    has_failed = 0;
+    left = ++allocation;
+    judge(is_well(path, is_prepared), is_prepared ? "a round of prepared statements" : "a round", allocation);
+  } while (has_failed && failed < 10);
+}
+
 int main(int count, char **words) {
   if (count < 2) return 2;
   char log[4096];
   snprintf(log, sizeof log, "%s-wal", words[1]);
-  do {
-    start_anew(words[1], log);
-    has_failed = 0;
-    left = passed + failed + 1;
-    judge(is_well(words[1]), "a round", passed + failed + 1);
-  } while (has_failed && failed < 10);
+  rounds(words[1], log, 0);
+  rounds(words[1], log, 1);
   start_anew(words[1], log);
   programs(words[1]);
   printf("memory: %d passed, %d failed\n", passed, failed);

@@ -1,4 +1,5 @@
 """The calls of kinolavust.py, with the rows that the sqlite3 module gives for the same statements. Ends with 'Python: N passed, N failed'."""
+import collections
 import os
 import sqlite3
 import sys
@@ -34,6 +35,13 @@ STATEMENTS = [
     ("SELECT '?', \"id\" FROM t WHERE id > ? ORDER BY id", (0,)),
     ("UPDATE t SET name = ? WHERE id IS NULL", ("now",)),
     ("SELECT count(*), max(id) FROM t", ()),
+    ("INSERT INTO t VALUES (:id, :name)", {"id": 5, "name": "'\0\"", "other": 1}),
+    ("INSERT INTO t VALUES (?2, ?1)", (bytes(range(256)) * 160, 6)),
+    ("INSERT INTO t VALUES (?, ?)", (7, b"\1" * 900_000)),
+    ("INSERT INTO t VALUES (?, ?)", [8, bytearray(b"list")]),
+    ("SELECT :a, ?, :a, ?5, @b FROM t WHERE id = ?2", (1, 5, 3, 4, "five", "six")),
+    ("SELECT id + :by FROM t WHERE id = :id", {"by": -1, "id": 5}),
+    ("DELETE FROM t WHERE name = :name", ("now",)),
     ("SELECT id, name FROM t ORDER BY id", ()),
 ]
 
@@ -51,10 +59,68 @@ def rows(folder):
 
 
 def parameters(folder):
-    """Which question marks stand for parameters."""
-    same("quoted", """'?''?' "?" [?] `?` 7""", kinolavust.bound("""'?''?' "?" [?] `?` ?""", (7,)))
-    same("comments", "-- ?\n'a''b' /* ? */ NULL", kinolavust.bound("-- ?\n? /* ? */ ?", ("a'b", None)))
-    same("without an end", "X'00' '?", kinolavust.bound("? '?", (b"\0",)))
+    """Which marks stand for parameters, and what is wrong with values: as the sqlite3 module has it."""
+    ours, theirs = kinolavust.connect(f"{folder}/ours.db"), sqlite3.connect(":memory:")
+
+    def outcome(db, sql, values):
+        try:
+            return db.execute(sql, values).fetchall()
+        except Exception as error:
+            return type(error).__name__
+
+    for sql, values in [
+        ("SELECT '?''?', ? /* ? */ -- ?", (7,)),
+        ("SELECT '?', ':a' AS \"?\"", ()),
+        ("SELECT ?", ()),
+        ("SELECT ?, ?", (1,)),
+        ("SELECT ?, ?", (1, 2, 3)),
+        ("SELECT 1", (1,)),
+        ("SELECT ?3", (1, 2, 3)),
+        ("SELECT :a, :b", {"a": 1}),
+        ("SELECT :a, :b", {"a": 1, "b": 2}),
+        ("SELECT :a, ?", {"a": 1}),
+        ("SELECT :a", ()),
+        ("SELECT 1", {}),
+        ("BEGIN", (1,)),
+        ("SELECT ?", (1 << 62,)),
+    ]:
+        same(f"{sql} {values}", outcome(theirs, sql, values), outcome(ours, sql, values))
+    same("a name twice", [(3, 3)], ours.execute("SELECT :a, :a", collections.defaultdict(lambda: 3)).fetchall())
+    ours.close()
+
+
+def statements(folder):
+    """Prepared statements: which are kept, and that they are those of the moment."""
+    db = kinolavust.connect(f"{folder}/statements.db", cached_statements=3)
+    kept = lambda: list(db._file.statements)  # noqa: E731
+    for number in (1, 2, 3, 1, 4):
+        db.execute(f"SELECT {number}")
+    same("the least used makes room", ["SELECT 3", "SELECT 1", "SELECT 4"], kept())
+    db.execute("CREATE TABLE t(a INTEGER)")
+    same("what can't be prepared isn't kept", ["SELECT 3", "SELECT 1", "SELECT 4"], kept())
+    for _ in range(2):
+        db.execute("INSERT INTO t VALUES (?)", (1,))
+        same("another connection", [(1,)], db.other(2).execute("SELECT a FROM t").fetchall())
+        db.execute("DROP TABLE t")
+        same("a table that is gone", ("ProgrammingError", 8, "no such table: t"), raised(lambda: db.execute("SELECT a FROM t")))
+        db.execute("CREATE TABLE t(a INTEGER)")
+
+    def values():
+        """Statements in the midst of executemany, which make room for themselves."""
+        for number in range(10):
+            db.execute(f"SELECT {number}")
+            yield (number,)
+
+    db.executemany("INSERT INTO t VALUES (?)", values())
+    same("among other statements", [(10, 45)], db.execute("SELECT count(*), sum(a) FROM t").fetchall())
+    cursor, again = db.cursor(), raised(lambda: db.executemany("INSERT INTO t VALUES (?)", [(1,), (1, 2)]))
+    same("a wrong row of executemany", "ProgrammingError", (again or ("",))[0])
+    db.close()
+    same("closed", "ProgrammingError", (raised(lambda: cursor.execute("SELECT 1")) or ("",))[0])
+    none = kinolavust.connect(f"{folder}/statements.db", cached_statements=0)
+    same("none are kept", [(11,)], none.execute("SELECT count(*) FROM t WHERE a >= ?", (0,)).fetchall())
+    del none
+    kinolavust.connect(f"{folder}/statements.db").close()
 
 
 def cursors(folder):
@@ -82,7 +148,9 @@ def refusals(folder):
         same("E17", ("IntegrityError", 17, "NOT NULL constraint failed"), run("INSERT INTO t VALUES (?)", None))
         same("E21", ("DataError", 21), (run("SELECT 1.5") or ())[:2])
         same("E4", ("NotSupportedError", 4), (run("ALTER TABLE t RENAME TO u") or ())[:2])
-        same("E25", ("DataError", 25), (run("INSERT INTO t VALUES (?)", b"x" * 40000) or ())[:2])
+        same("E25", ("DataError", 25), (run("INSERT INTO t VALUES (?)", b"x" * 1_000_001) or ())[:2])
+        same("E7 past parameters", ("ProgrammingError", 7, "syntax error at byte 21"), run("SELECT ?, :a, ?  FROM", 1))
+        same("E4 with a value", ("NotSupportedError", 4), (run("REPLACE INTO t VALUES (?)", 1) or ())[:2])
         same("too few", "ProgrammingError", (run("SELECT ?, ?", 1) or ("",))[0])
         same("too many", "ProgrammingError", (run("SELECT 1", 1) or ("",))[0])
         same("a float", "InterfaceError", (run("SELECT ?", 1.5) or ("",))[0])
@@ -93,7 +161,7 @@ def refusals(folder):
     with open(f"{folder}/text", "w") as it:
         it.write("no database" * 20)
     same("another file", ("DatabaseError", 3, "the file isn't a database"), raised(lambda: kinolavust.connect(f"{folder}/text")))
-    same("each number has a class", set(range(1, 30)), set(kinolavust.CLASSES))
+    same("each number has a class", set(range(1, 31)), set(kinolavust.CLASSES))
 
 
 def transactions(folder):
@@ -124,7 +192,7 @@ def transactions(folder):
 
 
 with tempfile.TemporaryDirectory() as room:
-    for part in (rows, parameters, cursors, refusals, transactions):
+    for part in (rows, parameters, statements, cursors, refusals, transactions):
         os.mkdir(f"{room}/{part.__name__}")
         part(f"{room}/{part.__name__}")
 print(f"Python: {passed} passed, {failed} failed")

@@ -7,14 +7,14 @@
         for (note,) in db.execute("SELECT note FROM notes WHERE subject = ?", ("home",)):
             print(note)
 
-A parameter is written into the statement as a literal. Each statement commits by itself, except between BEGIN and COMMIT.
+Parameters are `?`, `?N` and `:name`. A statement is prepared, and kept for the next time that its text comes. Each statement commits
+by itself, except between BEGIN and COMMIT.
 `Connection.other(2)` is another of the sixteen connections of the same file, with its own transaction and snapshot. The shared
 library is KINOLAVUST_LIB, or libkinolavust.so beside this file or in bindings/out.
 """
+import collections
 import ctypes
-import functools
 import os
-import re
 
 apilevel = "2.0"
 threadsafety = 0
@@ -68,7 +68,7 @@ class NotSupportedError(DatabaseError):
 
 
 CLASSES = {
-    **dict.fromkeys((1, 2, 6, 12, 13, 14, 15, 16, 23, 28, 29), OperationalError),
+    **dict.fromkeys((1, 2, 6, 12, 13, 14, 15, 16, 23, 28, 29, 30), OperationalError),
     **dict.fromkeys((3, 5), DatabaseError),
     **dict.fromkeys((7, 8, 9, 10, 11), ProgrammingError),
     **dict.fromkeys((17, 18, 19, 20, 26), IntegrityError),
@@ -99,6 +99,15 @@ class _Options(ctypes.Structure):
 
 _open = _declare("open", _int, ctypes.c_char_p, ctypes.POINTER(_Options), ctypes.POINTER(_p))
 _execute = _declare("execute", _int, _p, ctypes.c_uint, ctypes.c_char_p, _size, ctypes.POINTER(_p))
+_prepare = _declare("prepare", _int, _p, ctypes.c_char_p, _size, ctypes.POINTER(_p))
+_parameter_count = _declare("parameter_count", _size, _p)
+_parameter_name = _declare("parameter_name", _p, _p, _size, ctypes.POINTER(_size))
+_bind_null = _declare("bind_null", _int, _p, _size)
+_bind_integer = _declare("bind_integer", _int, _p, _size, ctypes.c_int64)
+_bind_text = _declare("bind_text", _int, _p, _size, ctypes.c_char_p, _size)
+_bind_blob = _declare("bind_blob", _int, _p, _size, ctypes.c_char_p, _size)
+_run = _declare("run", _int, _p, ctypes.c_uint, ctypes.POINTER(_p))
+_finish = _declare("finish", None, _p)
 _message = _declare("message", ctypes.c_char_p, _p)
 _place = _declare("place", ctypes.c_uint64, _p)
 _subject = _declare("subject", _p, _p, ctypes.POINTER(_size))
@@ -120,43 +129,10 @@ def _refusal(number, at):
     return CLASSES.get(number, DatabaseError)(message, number, _place(at), subject)
 
 
-def quote(value):
-    """A value as a literal: None, a bool or an int of 64 bits, a str, bytes."""
-    if value is None:
-        return "NULL"
-    if isinstance(value, int):
-        if not -(1 << 63) <= value < 1 << 63:
-            raise DataError(f"an integer outside 64 bits: {value}")
-        return str(int(value)) if value > -(1 << 63) else "(-9223372036854775807 - 1)"
-    if isinstance(value, str):
-        return "'" + value.replace("'", "''") + "'"
-    if isinstance(value, (bytes, bytearray, memoryview)):
-        return f"X'{bytes(value).hex()}'"
-    raise InterfaceError(f"a parameter of a type that isn't supported: {type(value).__name__}")
-
-
-# What a `?` isn't a parameter in, a quoted text or a comment, and then the `?` that is one.
-TOKEN = re.compile(r"""'[^']*'?|"[^"]*"?|`[^`]*`?|\[[^]]*]?|--[^\n]*|/\*.*?(?:\*/|\Z)|\?""", re.DOTALL)
-
-
-@functools.lru_cache(maxsize=128)
-def _pieces(sql):
-    """The texts before, between and after the parameters of a statement."""
-    pieces, begun = [], 0
-    for it in TOKEN.finditer(sql):
-        if it[0] == "?":
-            pieces.append(sql[begun : it.start()])
-            begun = it.end()
-    return (*pieces, sql[begun:])
-
-
-def bound(sql, parameters):
-    """The statement with the literal of a parameter in the place of each `?`."""
-    first, *others = _pieces(sql)
-    parameters = tuple(parameters)
-    if len(others) != len(parameters):
-        raise ProgrammingError(f"the statement has {len(others)} parameters, and {len(parameters)} were given")
-    return first + "".join(quote(value) + piece for value, piece in zip(parameters, others))
+def _integer_of_64_bits(value):
+    if not -(1 << 63) <= value < 1 << 63:
+        raise DataError(f"an integer outside 64 bits: {value}")
+    return int(value)
 
 
 def _value(rows, row, column):
@@ -170,31 +146,132 @@ def _value(rows, row, column):
     return data.decode() if kind == 2 else data
 
 
-class _File:
-    """An open file, which its connections share."""
+def _rows(rows):
+    """The rows of a reply as tuples. They are freed."""
+    try:
+        return [tuple(_value(rows, row, it) for it in range(_column_count(rows, row))) for row in range(_row_count(rows))]
+    finally:
+        _free(rows)
 
-    def __init__(self, path, page_size, salts):
+
+class _Statement:
+    """A prepared statement of an open file. (It doesn't hold the file, which holds it.)"""
+
+    def __init__(self, file, sql):
         self.at = _p()
+        text = sql.encode()
+        number = _prepare(file.at, text, len(text), ctypes.byref(self.at))
+        if number:
+            raise _refusal(number, file.at)
+        self.count = _parameter_count(self.at)
+        self.names = [self._name(place) for place in range(1, self.count + 1)]
+
+    def _name(self, place):
+        """The name of a parameter without its mark, or None."""
+        count = _size()
+        at = _parameter_name(self.at, place, ctypes.byref(count))
+        name = ctypes.string_at(at, count.value).decode() if at else "?"
+        return None if name[0] == "?" else name[1:]
+
+    def _values(self, parameters):
+        """The values in the order of their places."""
+        if not hasattr(parameters, "keys"):
+            return list(parameters)
+        if None in self.names:
+            raise ProgrammingError(f"parameter {self.names.index(None) + 1} has no name, and values by name were given")
+        try:
+            return [parameters[name] for name in self.names]
+        except LookupError as error:
+            raise ProgrammingError(f"no value was given for the parameter {error}") from None
+
+    def _bind(self, file, place, value):
+        if value is None:
+            number = _bind_null(self.at, place)
+        elif isinstance(value, int):
+            number = _bind_integer(self.at, place, _integer_of_64_bits(value))
+        elif isinstance(value, str):
+            text = value.encode()
+            number = _bind_text(self.at, place, text, len(text))
+        elif isinstance(value, (bytes, bytearray, memoryview)):
+            data = bytes(value)
+            number = _bind_blob(self.at, place, data, len(data))
+        else:
+            raise InterfaceError(f"a parameter of a type that isn't supported: {type(value).__name__}")
+        if number:
+            raise _refusal(number, file.at)
+
+    def run(self, file, connection, parameters):
+        """Runs it with these values, and gives its rows as tuples."""
+        values, rows = self._values(parameters), _p()
+        if len(values) != self.count:
+            raise ProgrammingError(f"the statement has {self.count} parameters, and {len(values)} were given")
+        file.check()
+        for place, value in enumerate(values, 1):
+            self._bind(file, place, value)
+        number = _run(self.at, connection, ctypes.byref(rows))
+        if number:
+            raise _refusal(number, file.at)
+        return _rows(rows)
+
+    def __del__(self):
+        if getattr(self, "at", None):
+            _finish(self.at)
+
+
+class _Text:
+    """A statement that can't be prepared, as CREATE TABLE or BEGIN, and why."""
+
+    def __init__(self, sql, refusal):
+        self.sql, self.refusal = sql, refusal
+
+    def run(self, file, connection, parameters):
+        """Executes it, if no values are given."""
+        if not parameters:
+            return file.rows(connection, self.sql)
+        if "?" in self.sql or ":" in self.sql:
+            raise self.refusal
+        raise ProgrammingError("the statement has no parameters, and some were given")
+
+
+class _File:
+    """An open file, which its connections share, with the statements that were prepared last."""
+
+    def __init__(self, path, page_size, salts, cached_statements):
+        self.at, self.cached_statements = _p(), cached_statements
+        self.statements = collections.OrderedDict()
         number = _open(os.fsencode(path), ctypes.byref(_Options(page_size, salts)), ctypes.byref(self.at))
         if number:
             refusal = _refusal(number, self.at)
             self.close()
             raise refusal
 
-    def rows(self, connection, sql):
-        """Executes a statement, and gives its rows as tuples."""
+    def check(self):
         if not self.at:
             raise ProgrammingError("the database is closed")
+
+    def statement(self, sql):
+        """The statement of a text. Those that were prepared are kept: the one that wasn't used for longest makes room for a new one."""
+        self.check()
+        try:
+            statement = self.statements.pop(sql, None) or _Statement(self, sql)
+        except NotSupportedError as refusal:
+            return _Text(sql, refusal.with_traceback(None))
+        self.statements[sql] = statement
+        while len(self.statements) > self.cached_statements:
+            self.statements.popitem(last=False)
+        return statement
+
+    def rows(self, connection, sql):
+        """Executes a statement, and gives its rows as tuples."""
+        self.check()
         text, rows = sql.encode(), _p()
         number = _execute(self.at, connection, text, len(text), ctypes.byref(rows))
         if number:
             raise _refusal(number, self.at)
-        try:
-            return [tuple(_value(rows, row, it) for it in range(_column_count(rows, row))) for row in range(_row_count(rows))]
-        finally:
-            _free(rows)
+        return _rows(rows)
 
     def close(self):
+        self.statements.clear()
         at, self.at = self.at, _p()
         _close(at)
 
@@ -267,13 +344,13 @@ class Cursor:
         self.connection, self._rows = connection, iter(())
 
     def execute(self, sql, parameters=()):
-        text = bound(sql, parameters) if parameters else sql
-        self._rows = iter(self.connection._file.rows(self.connection.number, text))
-        return self
+        return self.executemany(sql, (parameters,))
 
     def executemany(self, sql, many):
+        file, number = self.connection._file, self.connection.number
+        statement = file.statement(sql)
         for parameters in many:
-            self.execute(sql, parameters)
+            self._rows = iter(statement.run(file, number, parameters))
         return self
 
     def fetchone(self):
@@ -301,6 +378,6 @@ class Cursor:
         self._rows = iter(())
 
 
-def connect(path, page_size=0, salts=0):
-    """Opens the database of a file, and creates it where the file doesn't exist or is blank."""
-    return Connection(_File(path, page_size, salts), 1)
+def connect(path, page_size=0, salts=0, cached_statements=100):
+    """Opens the database of a file, and creates it where the file doesn't exist or is blank. So many prepared statements are kept."""
+    return Connection(_File(path, page_size, salts, cached_statements), 1)

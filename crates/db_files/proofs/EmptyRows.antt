@@ -23,7 +23,7 @@ abbrev page : List ℕ
 page = head ++ (13 ∷ 0 ∷ 0 ∷ 0 ∷ 0 ∷ 2 ∷ 0 ∷ 0 ∷ replicate 404 0)
 
 read : header_at page ≡ Ok (empty_of 512)
-unfolding header_at reading.has_text reading.feature_of sizes.is_size fields.two_at fields.four_at reading.is_fixed reading.fields_of
+unfolding header_at reading.has_text reading.feature_of sizes.is_size fields.two_at fields.four_at fields.size_said reading.is_fixed reading.fields_of
 read = refl
 
 at_most_one : (b : Bool) → (if b then 1 else 0) + 0 ≤ 1

@@ -3,7 +3,7 @@ use Rattle.std.proofs.Common.{◌≡◌, inl, inr, ℕ, ◌+◌, ◌<◌, ◌≤
 use Rattle.std.proofs.lemmas.Bool.{cases_lt}
 use Rattle.std.proofs.lemmas.List.{get_or-take, take-take, drop-take, take_all, drop_all, length-take-le, length-drop, take-append-le, drop-append-le}
 use Rattle.db_header.specs.declared.fields.Header.{Header}
-use Rattle.db_header.specs.Header.{part, two_at, four_at, IsHeader}
+use Rattle.db_header.specs.Header.{part, two_at, four_at, size_said, IsHeader}
 
 part_front : (at n more : ℕ) (bytes : List ℕ) → n ≤ more → part at n (take (at + more) bytes) ≡ part at n bytes
 part_front at n more bytes le = ap (take n) (drop-take at more bytes) ∙ take-take n more (drop at bytes) le
@@ -41,7 +41,7 @@ pub header_moves : (a b : List ℕ) (h : Header) → take 100 a ≡ take 100 b �
 header_moves a b h is header = record {
   long = front_long a b is header.long;
   text = same_part 0 16 100 a b (omega arith) is ∙ header.text;
-  page_size = same_two 16 84 a b (omega arith) is ∙ header.page_size;
+  page_size = ap size_said (same_two 16 84 a b (omega arith) is) ∙ header.page_size;
   served = header.served;
   versions = same_part 18 2 82 a b (omega arith) is ∙ header.versions;
   reserved = same_part 20 1 80 a b (omega arith) is ∙ header.reserved;

@@ -7,7 +7,7 @@ use Rattle.std.proofs.lemmas.Slice.Eq.{bytes_eq-Decides}
 use Rattle.sqlval.specs.declared.fault.Fault.{Fault}
 use Rattle.sqlval.specs.declared.fault.Feature.{Feature}
 use Rattle.db_header.specs.declared.fields.Header.{Header}
-use Rattle.db_header.specs.Header.{two_at, four_at, part, IsHeader}
+use Rattle.db_header.specs.Header.{two_at, four_at, part, size_said, IsHeader}
 use Rattle.db_header.specs.Reading.{has_text, feature_of, is_fixed, fields_of, unless, header_at}
 use Rattle.sqlval.proofs.PageSizeLemmas.{size_is, size_tested}
 
@@ -41,7 +41,7 @@ header_of e = cc
 
 -- the numbers of what was read
 pub record Served (bytes : List ℕ) : Type 0 where
-  pub size : is_size (two_at 16 bytes) ≡ true
+  pub size : is_size (size_said (two_at 16 bytes)) ≡ true
   pub versions : part 18 2 bytes ≡ 2 ∷ 2 ∷ []
   pub reserved : part 20 1 bytes ≡ 0 ∷ []
   pub schema_format : four_at 44 bytes ≡ 4

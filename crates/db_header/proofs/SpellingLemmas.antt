@@ -1,12 +1,15 @@
 -- A header has one spelling.
-use Rattle.std.proofs.Common.{◌≡◌, inl, inr, ℕ, ◌+◌, ◌≤◌, List, [], ◌∷◌, ◌++◌, length, take, drop, slice_index, replicate, refl, sym, ap, ◌∙◌, arith}
+use Rattle.std.proofs.Common.{◌≡◌, inl, inr, ℕ, ◌+◌, ◌<◌, ◌≤◌, List, [], ◌∷◌, ◌++◌, length, take, drop, slice_index, replicate, refl, sym, ap, ◌∙◌, arith}
 use Rattle.std.proofs.lemmas.Bool.{cases_lt}
 use Rattle.std.proofs.lemmas.List.{get_or-drop, get_or-take, get_or_past, length-take-le, length-drop, drop-drop, take-append-drop, take-take, drop-take}
 use Rattle.std.proofs.lemmas.Nat.{be_bytes_2, be_bytes_4}
 use Rattle.std.specs.Int.{w16, w32, to_be_bytes}
 use Rattle.db_header.specs.declared.fields.Header.{Header}
-use Rattle.db_header.specs.Header.{magic, part, two_at, four_at, IsHeader}
-use Rattle.db_header.specs.Writing.{IsBytes, IsOnlySpelling}
+use Rattle.byteorder.specs.Endian.{big_number}
+use Rattle.sqlval.specs.PageSizes.{IsPageSize}
+use Rattle.sqlval.proofs.PageSizeLemmas.{by_size}
+use Rattle.db_header.specs.Header.{magic, part, two_at, four_at, size_said, IsHeader}
+use Rattle.db_header.specs.Writing.{IsBytes, IsOnlySpelling, IsOnlySizeSpelling}
 
 take_small : (k : ℕ) (bytes : List ℕ) → k ≤ length bytes → IsBytes bytes → IsBytes (take k bytes)
 take_small k bytes long small i =
@@ -28,11 +31,11 @@ four_bytes n bytes long small e =
     (omega (arith, get_or-take 4 bytes 0 0 (omega arith), get_or-take 4 bytes 1 0 (omega arith), get_or-take 4 bytes 2 0 (omega arith), get_or-take 4 bytes 3 0 (omega arith))))
 
 -- the same spellings, cell by cell
-pub two_cells : (n : ℕ) (xs : List ℕ) → length xs ≡ 2 → IsOnlySpelling 2 n xs → IsOnlySpelling 2 n (slice_index xs 0 ∷ slice_index xs 1 ∷ [])
-two_cells n [] len only = absurd (omega arith)
-two_cells n (a ∷ []) len only = absurd (omega arith)
-two_cells n (a ∷ b ∷ []) len only = only
-two_cells n (a ∷ b ∷ c ∷ xs) len only = absurd (omega arith)
+pub size_cells : (n : ℕ) (xs : List ℕ) → length xs ≡ 2 → IsOnlySizeSpelling n xs → IsOnlySizeSpelling n (slice_index xs 0 ∷ slice_index xs 1 ∷ [])
+size_cells n [] len only = absurd (omega arith)
+size_cells n (a ∷ []) len only = absurd (omega arith)
+size_cells n (a ∷ b ∷ []) len only = only
+size_cells n (a ∷ b ∷ c ∷ xs) len only = absurd (omega arith)
 
 pub four_cells : (n : ℕ) (xs : List ℕ) → length xs ≡ 4 → IsOnlySpelling 4 n xs → IsOnlySpelling 4 n (slice_index xs 0 ∷ slice_index xs 1 ∷ slice_index xs 2 ∷ slice_index xs 3 ∷ [])
 four_cells n [] len only = absurd (omega arith)
@@ -47,9 +50,9 @@ next k n m xs =
     let rest = drop k xs in
     sym (take-append-drop n (take (n + m) rest)) ∙ rw (take-take n (n + m) rest (omega arith), drop-take n m rest, drop-drop n k xs) refl
 
-two_is : (k n : ℕ) (spelling bytes : List ℕ) → IsOnlySpelling 2 n spelling → k + 2 ≤ length bytes → IsBytes bytes → two_at k bytes ≡ n → part k 2 bytes ≡ spelling
+size_is : (k n : ℕ) (spelling bytes : List ℕ) → IsOnlySizeSpelling n spelling → k + 2 ≤ length bytes → IsBytes bytes → size_said (two_at k bytes) ≡ n → part k 2 bytes ≡ spelling
 unfolding two_at
-two_is k n spelling bytes only long small e = only (drop k bytes) (omega (arith, length-drop k bytes)) (drop_small k bytes small) e
+size_is k n spelling bytes only long small e = only (drop k bytes) (omega (arith, length-drop k bytes)) (drop_small k bytes small) e
 
 four_is : (k n : ℕ) (spelling bytes : List ℕ) → IsOnlySpelling 4 n spelling → k + 4 ≤ length bytes → IsBytes bytes → four_at k bytes ≡ n → part k 4 bytes ≡ spelling
 unfolding four_at
@@ -80,7 +83,7 @@ parts xs =
 
 -- the spellings of a header's numbers
 pub record AreSpellings (header : Header) (size changes pages trunk count cookie cache user application valid writer : List ℕ) : Type 0 where
-  pub size_is : IsOnlySpelling 2 header.page_size size
+  pub size_is : IsOnlySizeSpelling header.page_size size
   pub changes_is : IsOnlySpelling 4 header.change_counter changes
   pub pages_is : IsOnlySpelling 4 header.size pages
   pub trunk_is : IsOnlySpelling 4 header.freelist_trunk trunk
@@ -100,7 +103,7 @@ only_header other header size changes pages trunk count cookie cache user applic
     let long = i.long in
     parts other ∙ rw (
       i.text,
-      two_is 16 header.page_size size other s.size_is (omega arith) small i.page_size,
+      size_is 16 header.page_size size other s.size_is (omega arith) small i.page_size,
       i.versions,
       i.reserved,
       i.fractions,
@@ -120,3 +123,12 @@ only_header other header size changes pages trunk count cookie cache user applic
       four_is 92 header.version_valid_for valid other s.valid_is (omega arith) small i.version_valid_for,
       four_is 96 header.writer_version writer other s.writer_is (omega arith) small i.writer_version,
     ) refl
+
+-- each page size but 65536 is said by itself
+said_by : (n : ℕ) → IsPageSize n → (n ≡ 65536 → ⊥) → size_said n ≡ n
+unfolding size_said
+said_by n is none =
+    by_size (λ (n : ℕ). (n ≡ 65536 → ⊥) → size_said n ≡ n) (λ none. refl) (λ none. refl) (λ none. refl) (λ none. refl) (λ none. refl) (λ none. refl) (λ none. refl) (λ none. absurd (none refl)) n is none
+
+pub said_alone : (n number : ℕ) → IsPageSize n → (n ≡ 65536 → ⊥) → number ≡ n → size_said number ≡ n
+said_alone n number is none same = ap size_said same ∙ said_by n is none

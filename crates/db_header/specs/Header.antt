@@ -16,6 +16,10 @@ two_at offset bytes = big_number 2 (drop offset bytes)
 unfoldable pub four_at : ℕ → List ℕ → ℕ
 four_at offset bytes = big_number 4 (drop offset bytes)
 
+-- the page size that a number of two bytes says: 1 stands for 65536 (Database File Format, "Page Size")
+unfoldable pub size_said : ℕ → ℕ
+size_said number = if number == 1 then 65536 else number
+
 -- so many bytes from an offset on
 abbrev pub part : ℕ → ℕ → List ℕ → List ℕ
 part offset size bytes = take size (drop offset bytes)
@@ -25,7 +29,7 @@ part offset size bytes = take size (drop offset bytes)
 pub record IsHeader (bytes : List ℕ) (header : Header) : Type 0 where
   pub long : 100 ≤ length bytes
   pub text : part 0 16 bytes ≡ magic
-  pub page_size : two_at 16 bytes ≡ header.page_size
+  pub page_size : size_said (two_at 16 bytes) ≡ header.page_size
   pub served : IsPageSize header.page_size
   pub versions : part 18 2 bytes ≡ 2 ∷ 2 ∷ []
   pub reserved : part 20 1 bytes ≡ 0 ∷ []

@@ -7,7 +7,7 @@ use Rattle.sqlval.specs.declared.fault.Fault.TheVariants.{NotADatabase, Unsuppor
 use Rattle.sqlval.specs.declared.fault.Feature.{Feature}
 use Rattle.sqlval.specs.declared.fault.Damage.TheVariants as Damage
 use Rattle.db_header.specs.declared.fields.Header.{Header}
-use Rattle.db_header.specs.Header.{magic, two_at, four_at, part}
+use Rattle.db_header.specs.Header.{magic, two_at, four_at, part, size_said}
 
 -- whether the bytes are long enough and begin as those of a database file do
 unfoldable pub has_text : List ℕ → Bool
@@ -16,7 +16,7 @@ has_text bytes = nat_le 100 (length bytes) && bytes_eq (part 0 16 bytes) magic
 -- the first thing outside what is supported
 unfoldable pub feature_of : List ℕ → Option Feature
 feature_of bytes =
-    if not (is_size (two_at 16 bytes)) then Some Feature.PageSize
+    if not (is_size (size_said (two_at 16 bytes))) then Some Feature.PageSize
     else (if not (bytes_eq (part 18 2 bytes) (2 ∷ 2 ∷ [])) then Some Feature.FileVersion
     else (if not (bytes_eq (part 20 1 bytes) (0 ∷ [])) then Some Feature.ReservedBytes
     else (if not (four_at 44 bytes == 4) then Some Feature.SchemaFormat
@@ -32,7 +32,7 @@ is_fixed bytes = bytes_eq (part 21 3 bytes) (64 ∷ 32 ∷ 32 ∷ []) && bytes_e
 unfoldable pub fields_of : List ℕ → Header
 fields_of bytes =
     record {
-      page_size = two_at 16 bytes;
+      page_size = size_said (two_at 16 bytes);
       change_counter = four_at 24 bytes;
       size = four_at 28 bytes;
       freelist_trunk = four_at 32 bytes;

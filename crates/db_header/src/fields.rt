@@ -6,7 +6,7 @@ ghost use Rattle.db_header.specs.Header.{empty_of, counted_of};
 /// What the header of a database file says. All numbers are kept as they stand there.
 #[derive(Clone, Copy, Debug, PartialEq, Eq)]
 pub struct Header {
-    /// Bytes of a page: a power of two from 512 to 32768.
+    /// Bytes of a page: a power of two from 512 to 65536.
     pub page_size: u32,
     /// How often the database was changed.
     pub change_counter: u32,

@@ -3,7 +3,7 @@
 //! | offset | size | meaning |
 //! |---|---|---|
 //! | 0 | 16 | `SQLite format 3` and a zero byte |
-//! | 16 | 2 | page size: a power of two from 512 to 32768 |
+//! | 16 | 2 | page size: a power of two from 512 to 65536, or 1 for 65536 |
 //! | 18 | 6 | write and read version 2 and 2 (WAL), reserved bytes 0, payload fractions 64, 32, 32 |
 //! | 24 | 4 | change counter |
 //! | 28 | 4 | number of pages; it counts if it isn't 0 and the numbers at 24 and 92 are equal |

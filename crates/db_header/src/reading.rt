@@ -3,7 +3,7 @@
 ghost use Rattle.std.specs.Prelude.{◌≡◌, ◌≤◌, ◌+◌, length, IfOk, Ok};
 ghost use Rattle.std.specs.Str.{bytes_eq};
 ghost use Rattle.db_header.specs.declared.fields.Header.{Header};
-ghost use Rattle.db_header.specs.Header.{IsHeader, two_at, four_at, part};
+ghost use Rattle.db_header.specs.Header.{IsHeader, two_at, four_at, part, size_said};
 ghost use Rattle.db_header.specs.Reading.{has_text, feature_of, is_fixed, fields_of, header_at};
 
 use crate::fields::Header;
@@ -17,6 +17,18 @@ fn u16_at(bytes: &[u8], offset: usize) -> u32
     ensures { result ≡ two_at offset bytes.now }
 {
     u32::from(BigEndian::read_u16(&bytes[offset..]))
+}
+
+/// The page size that the bytes say: 1 stands for 65536.
+#[tactic(auto, unfolding(crate::specs::Header::size_said))]
+fn page_size(bytes: &[u8]) -> u32
+    requires { 100 ≤ length bytes.now }
+    ensures { result ≡ size_said (two_at 16 bytes.now) }
+{
+    match u16_at(bytes, 16) {
+        1 => 65536,
+        size => size,
+    }
 }
 
 /// The number in the four bytes from an offset on.
@@ -50,7 +62,7 @@ fn unsupported(bytes: &[u8]) -> Option<Feature>
     requires { 100 ≤ length bytes.now }
     ensures { result ≡ feature_of bytes.now }
 {
-    if !is_page_size(u16_at(bytes, 16)) {
+    if !is_page_size(page_size(bytes)) {
         Some(Feature::PageSize)
     } else if !is_at(bytes, 18, &[2, 2]) {
         Some(Feature::FileVersion)
@@ -85,7 +97,7 @@ fn fields(bytes: &[u8]) -> Header
     ensures { result ≡ fields_of bytes.now }
 {
     Header {
-        page_size: u16_at(bytes, 16),
+        page_size: page_size(bytes),
         change_counter: u32_at(bytes, 24),
         size: u32_at(bytes, 28),
         freelist_trunk: u32_at(bytes, 32),

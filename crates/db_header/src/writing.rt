@@ -4,8 +4,8 @@ ghost use Rattle.sqlval.specs.PageSizes.{IsPageSize};
 ghost use Rattle.std.specs.Prelude.{◌≡◌, ℕ, List, length, take};
 ghost use Rattle.byteorder.specs.Endian.{big_number};
 ghost use Rattle.db_header.specs.declared.fields.Header.{Header};
-ghost use Rattle.db_header.specs.Header.{IsHeader};
-ghost use Rattle.db_header.specs.Writing.{IsBytes, IsOnlySpelling};
+ghost use Rattle.db_header.specs.Header.{IsHeader, size_said};
+ghost use Rattle.db_header.specs.Writing.{IsBytes, IsOnlySizeSpelling, IsOnlySpelling};
 
 use crate::fields::Header;
 
@@ -18,14 +18,27 @@ fn quad(n: u32) -> [u8; 4]
     n.to_be_bytes()
 }
 
-/// The two bytes of a page size, big-endian.
-fn pair(n: u32) -> [u8; 2]
-    requires { IsPageSize n }
-    ensures value { big_number 2 result ≡ n }
-    ensures only { IsOnlySpelling 2 n result }
+/// The two bytes of a number, big-endian.
+fn pair(number: u16) -> [u8; 2]
+    ensures value { big_number 2 result ≡ number }
+    ensures only { IsOnlySpelling 2 number result }
     ensures len { length result ≡ 2 }
 {
-    (n as u16).to_be_bytes()
+    number.to_be_bytes()
+}
+
+/// The two bytes of a page size: 1 stands for 65536.
+#[tactic(auto, unfolding(crate::specs::Header::size_said))]
+fn size_pair(n: u32) -> [u8; 2]
+    requires { IsPageSize n }
+    ensures value { size_said (big_number 2 result) ≡ n }
+    ensures only { IsOnlySizeSpelling n result }
+    ensures len { length result ≡ 2 }
+{
+    if n == 65536 {
+        return pair(1);
+    }
+    pair(n as u16)
 }
 
 /// The 100 bytes of a header. `is_page_size` is the test of its page size.
@@ -36,7 +49,7 @@ pub fn write(header: &Header) -> [u8; 100]
     ensures only { (other : List ℕ) → IsBytes other → IsHeader other header.now
         → take 100 other ≡ result }
 {
-    let [p0, p1] = pair(header.page_size);
+    let [p0, p1] = size_pair(header.page_size);
     let [c0, c1, c2, c3] = quad(header.change_counter);
     let [s0, s1, s2, s3] = quad(header.size);
     let [t0, t1, t2, t3] = quad(header.freelist_trunk);

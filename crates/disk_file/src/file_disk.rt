@@ -138,6 +138,17 @@ fn length(file: &File) -> io::Result<u64> {
     Ok(file.metadata()?.len())
 }
 
+/// The length of a file, in bytes; 0 where it doesn't exist. The only refusal is `Io`.
+pub fn file_len<F: Files<File = File>>(files: &F, name: &str) -> R<u64>
+    ensures refused { IfErr result (λ fault. fault ≡ Fault.Io) }
+{
+    match File::open(files, name) {
+        Ok(file) => length(&file).map_err(|_| Fault::Io),
+        Err(error) if error.kind() == io::ErrorKind::NotFound => Ok(0),
+        Err(_) => Err(Fault::Io),
+    }
+}
+
 fn read(file: &File, at: u64, buf: &mut [u8]) -> io::Result<()> {
     if at > MAX_OFFSET {
         return Err(io::ErrorKind::InvalidInput.into());

@@ -3,4 +3,4 @@
 
 mod file_disk;
 
-pub use file_disk::{FileDisk, sync_folder};
+pub use file_disk::{FileDisk, file_len, sync_folder};

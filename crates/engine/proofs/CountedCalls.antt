@@ -9,7 +9,8 @@ use Rattle.sqlval.specs.declared.fault.Fault.TheVariants.{Io}
 use Rattle.sqlval.specs.Faults.{IsNotDiskFault}
 use Rattle.wal.specs.Refusals.{IsCutRefusal, IsOpenRefusal}
 use Rattle.pages.specs.Calls.{Causes, IsCause}
-use Rattle.engine.specs.Creating.{CountsIo, IsNewFileRefusal}
+use Rattle.pager_older.specs.Counting.{CountsIo}
+use Rattle.engine.specs.Creating.{IsNewFileRefusal}
 use Rattle.engine.proofs.Refusing.{never_ok, on_err}
 
 always : {T : Type 0} (R : Type 0) (result : Result T Fault) → R → IfErr result (λ fault. fault ≡ Io → R)

@@ -90,7 +90,7 @@ from_start n bytes = (let none : (1 - 1) * n ≡ 0 = omega arith in ap (λ (k : 
 
 small : (page_size size n : ℕ) → IsPageSize page_size → n ≡ page_size → size ≡ 1 → IsSizeWithinLimits n size
 small page_size size n served is one =
-    let high : 2 ^ served.exponent ≤ 2 ^ 15 = pow-le-pow_right (omega arith) served.high in
+    let high : 2 ^ served.exponent ≤ 2 ^ 16 = pow-le-pow_right (omega arith) served.high in
     subst (λ (s : ℕ). IsSizeWithinLimits n s) (sym one) (record { few = omega arith; small = omega (arith, is, served.power, high) })
 
 pub some_is : (a b : ℕ) → Some a ≡ Some b → a ≡ b

@@ -1,3 +1,6 @@
+pub mod AloneFiles
+pub mod ConvertedFiles
+pub mod Preparation
 pub mod EmptyOpening
 pub mod HeldOpening
 pub mod HeldCrashes

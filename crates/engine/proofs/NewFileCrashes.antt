@@ -13,7 +13,8 @@ use Rattle.disk.proofs.Left.{left_synced, left_cut}
 use Rattle.disk.proofs.Moments.{alone, stays, gains_good, after_sync, gains_versions, always_both, always_end, always_weaker}
 use Rattle.tree_leaf.specs.Leaf.{leaf_header}
 use Rattle.tree_leaf.specs.Writing.{content_bytes, node_of, leaf_of}
-use Rattle.engine.specs.Creating.{is_zero_byte, is_blank_content, IsEmptyDatabase, IsBlankOrCreated, IsSyncedAs, LeavesBlankOr, LeavesBlankOrCreated, BecomesDatabase, BecomesPage}
+use Rattle.pager_older.specs.Older.{IsSyncedAs}
+use Rattle.engine.specs.Creating.{is_zero_byte, is_blank_content, IsEmptyDatabase, IsBlankOrCreated, LeavesBlankOr, LeavesBlankOrCreated, BecomesDatabase, BecomesPage}
 use Rattle.engine.proofs.NewFiles.{overwritten_nothing}
 
 -- ---- bytes of zero
@@ -234,7 +235,7 @@ pub empty_flat : (size : ℕ) (page : List ℕ) → IsPageSize size → IsEmptyD
 unfolding leaf_of
 empty_flat size page served empty = record {
   short =
-      let high : 2 ^ served.exponent ≤ 2 ^ 15 = pow-le-pow_right (omega arith) served.high in
+      let high : 2 ^ served.exponent ≤ 2 ^ 16 = pow-le-pow_right (omega arith) served.high in
       let front : List ℕ = leaf_header (0 ∷ 0 ∷ []) 0 (content_bytes (size - 0)) 0 in
       let zeros : List ℕ = replicate (size - 0 - (length empty.header + 8 + 0)) 0 in
       let l = ap length empty.page in

@@ -10,13 +10,14 @@ use Rattle.disk.specs.Calls.{CutsFile, Writes, Syncs, overwritten}
 use Rattle.disk.specs.File.{File}
 use Rattle.disk.proofs.Moments.{syncs_synced}
 use Rattle.sqlval.specs.declared.fault.Fault.{Fault}
-use Rattle.engine.specs.Creating.{HasCreated, IsEmptyDatabase, IsSyncedAs, Stays, is_blank_content, is_zero_byte}
+use Rattle.pager_older.specs.Older.{IsSyncedAs}
+use Rattle.engine.specs.Creating.{HasCreated, IsEmptyDatabase, Stays, is_blank_content, is_zero_byte}
 use Rattle.tree_leaf.specs.Writing.{Fits}
 
 pub fits_empty : (size front : ℕ) → IsPageSize size → front ≡ 100 → Fits size front []
 fits_empty size front served long =
     let low : 2 ^ 9 ≤ 2 ^ served.exponent = pow-le-pow_right (omega arith) served.low in
-    let high : 2 ^ served.exponent ≤ 2 ^ 15 = pow-le-pow_right (omega arith) served.high in
+    let high : 2 ^ served.exponent ≤ 2 ^ 16 = pow-le-pow_right (omega arith) served.high in
     record {
       addressed = omega (arith, served.power, high);
       whole = tt;

@@ -3,7 +3,7 @@ use Rattle.std.proofs.Common.{◌≡◌, ◌⊎◌, inl, inr, refl, sym, subst, 
 use Rattle.std.specs.Prelude.{IsFalse, IsTrue, Result, Ok, Err, IfOk, IfErr, OnOk, IsErrAnd}
 use Rattle.std.proofs.lemmas.Bool.{false≢true}
 use Rattle.sqlval.specs.declared.fault.Fault.{Fault}
-use Rattle.sqlval.specs.declared.fault.Fault.TheVariants.{Memory, Io, NotADatabase, Unsupported, Damaged, Full, Syntax, NoSuch, Exists, Ambiguous, Misuse, Busy, StaleSnapshot, NoTransaction, InTransaction, NoSavepoint, NotNull, Unique, Check, Raised, RealRefused, TypeRefused, RowidFull, RowidMismatch, TooLong, RowChangedBefore, ViewReadOnly, Failed, Blank}
+use Rattle.sqlval.specs.declared.fault.Fault.TheVariants.{Memory, Io, NotADatabase, Unsupported, Damaged, Full, Syntax, NoSuch, Exists, Ambiguous, Misuse, Busy, StaleSnapshot, NoTransaction, InTransaction, NoSavepoint, NotNull, Unique, Check, Raised, RealRefused, TypeRefused, RowidFull, RowidMismatch, TooLong, RowChangedBefore, ViewReadOnly, Failed, Blank, Journal}
 use Rattle.sqlval.specs.declared.fault.Damage.TheVariants as damages
 use Rattle.sqlval.specs.declared.fault.Feature.TheVariants as features
 use Rattle.wal.specs.Refusals.{IsCutRefusal, IsOpenRefusal}
@@ -56,6 +56,7 @@ cut_why has_failed old new failed fails TooLong refusal = absurd refusal
 cut_why has_failed old new failed fails RowChangedBefore refusal = absurd refusal
 cut_why has_failed old new failed fails ViewReadOnly refusal = absurd refusal
 cut_why has_failed old new failed fails Blank refusal = absurd refusal
+cut_why has_failed old new failed fails Journal refusal = absurd refusal
 cut_why has_failed old new failed fails Memory refusal = absurd refusal
 
 -- a refusal except for a failed call left the log as it was
@@ -122,5 +123,6 @@ open_why has_called cannot TooLong refusal = absurd refusal
 open_why has_called cannot RowChangedBefore refusal = absurd refusal
 open_why has_called cannot ViewReadOnly refusal = absurd refusal
 open_why has_called cannot Blank refusal = absurd refusal
+open_why has_called cannot Journal refusal = absurd refusal
 open_why has_called cannot Failed refusal = absurd refusal
 open_why has_called cannot NotADatabase refusal = absurd refusal

@@ -1,11 +1,11 @@
 -- What creating a database leaves, and why it is refused.
 use Rattle.sqlval.specs.PageSizes.{IsPageSize}
-use Rattle.std.specs.Prelude.{◌≡◌, ◌⊎◌, ◌≤◌, Result, IfErr, OnOk, ℕ, Bool, true, false, IsTrue, List, [], length, nat_lt, ◌==◌, if◌then◌else◌}
+use Rattle.std.specs.Prelude.{◌≡◌, ◌⊎◌, ℕ, Bool, true, false, IsTrue, List, [], length, nat_lt, ◌==◌, if◌then◌else◌}
 use Rattle.std.specs.List.{list_all}
-use Rattle.disk.specs.Calls.{Rose}
-use Rattle.disk.specs.File.{File, Version, IsSynced, IsLeft, Always, Throughout}
+use Rattle.disk.specs.File.{File, Version, IsLeft, Always, Throughout}
 use Rattle.db_header.specs.Header.{IsHeader, empty_of}
 use Rattle.tree_leaf.specs.Writing.{leaf_of}
+use Rattle.pager_older.specs.Older.{IsSyncedAs}
 use Rattle.session.specs.Holding.{Hold}
 use Rattle.sqlval.specs.declared.fault.Fault.{Fault}
 use Rattle.sqlval.specs.declared.fault.Fault.TheVariants.{Memory, Io, Unsupported, Misuse}
@@ -17,12 +17,6 @@ pub record Stays {D : Type 0} (tells : D → Bool) (file : D → File) (old new 
   pub told : tells new ≡ tells old
   pub same : IsTrue (tells old) → file new ≡ file old
 
--- the count of failed calls didn't fall; it is what it was where the answer is no refusal, and `Io` comes only where it rose
-pub record CountsIo {T : Type 0} (result : Result T Fault) (old new : ℕ) : Type 0 where
-  pub counts : old ≤ new
-  pub none_failed : OnOk result (new ≡ old)
-  pub io : IfErr result (λ fault. fault ≡ Io → Rose old new)
-
 -- The bytes are page 1 of the empty database: a header that says so, and after it a table leaf without cells (Database
 -- File Format, "The Database Header", "B-tree Pages").
 pub record IsEmptyDatabase (page_size : ℕ) (bytes : List ℕ) : Type 0 where
@@ -30,11 +24,6 @@ pub record IsEmptyDatabase (page_size : ℕ) (bytes : List ℕ) : Type 0 where
   pub sized : length header ≡ 100
   pub says : IsHeader header (empty_of page_size)
   pub page : bytes ≡ leaf_of header page_size []
-
--- the file's content is these bytes, and a crash leaves them and nothing else
-pub record IsSyncedAs (bytes : List ℕ) (file : File) : Type 0 where
-  pub content : file.content ≡ bytes
-  pub synced : IsSynced file
 
 abbrev pub is_zero_byte : ℕ → Bool
 is_zero_byte byte = byte == 0

@@ -1,3 +1,4 @@
+pub mod Converting
 pub mod Creating
 pub mod EngineState
 pub mod Failing
@@ -5,6 +6,7 @@ pub mod Language
 pub mod Lines
 pub mod Opening
 pub mod Output
+pub mod Preparing
 pub mod Promises
 pub mod Replies
 pub mod Representation

@@ -6,7 +6,9 @@ ghost use Rattle.std.specs.List.{list_all};
 ghost use Rattle.sqlval.specs.declared.fault.Fault.TheVariants.{Io, Memory};
 ghost use Rattle.disk.specs.Calls.{Rose};
 ghost use Rattle.disk.specs.File.{Elapses, IsSynced};
-ghost use Rattle.engine.specs.Creating.{is_blank_content, is_zero_byte, BecomesDatabase, BecomesPage, CountsIo, CreatedHold, HasCreated, IsNewFileRefusal, IsEmptyDatabase, IsSyncedAs, Stays};
+ghost use Rattle.pager_older.specs.Counting.{CountsIo};
+ghost use Rattle.pager_older.specs.Older.{IsSyncedAs};
+ghost use Rattle.engine.specs.Creating.{is_blank_content, is_zero_byte, BecomesDatabase, BecomesPage, CreatedHold, HasCreated, IsNewFileRefusal, IsEmptyDatabase, Stays};
 
 use db_header::Header;
 use disk::Disk;
@@ -120,7 +122,7 @@ fn put_empty<D: Disk>(db: &mut D, log: &mut D, page: &[u8]) -> R<()>
 }
 
 /// Makes the empty database of a blank file: the log is cut to nothing, then page 1 is written. Refusals: `Misuse` where
-/// the file isn't blank, `Unsupported` where the page size is no power of two from 512 to 32768, `Memory`; then nothing
+/// the file isn't blank, `Unsupported` where the page size is no power of two from 512 to 65536, `Memory`; then nothing
 /// has changed. `Io`: of a blank file the database file is blank still, or the empty database beside a log without a byte;
 /// any other file is as it was, and so is its log.
 pub fn create<D: Disk>(alloc: Global, db: &mut D, log: &mut D, page_size: u32) -> R<()>

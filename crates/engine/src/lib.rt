@@ -1,15 +1,18 @@
 //! The engine: creates and opens databases, executes statements, and runs lines of text.
 #![tactic(auto)]
 
+mod converting;
 mod creating;
 mod laws;
 mod lines;
 mod literals;
 mod opening;
 mod output;
+mod prepared;
 mod refusals;
 mod serving;
 
+pub use converting::convert;
 pub use creating::{create, created_files_hold_nothing};
 pub use laws::{
     crash_keeps_commits, crash_keeps_runs, files_hold_one_database, held_earlier, opening_keeps,
@@ -17,6 +20,7 @@ pub use laws::{
 };
 pub use opening::Engine;
 pub use output::put_reply;
+pub use prepared::Prepared;
 pub use row_scan::Rows;
 pub use wal::Refused;
 pub use wal_frame::Salts;

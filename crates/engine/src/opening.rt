@@ -1,6 +1,6 @@
 //! Opening a database file with its log.
 
-ghost use Rattle.std.specs.Prelude.{◌≡◌, ◌⊎◌, List, Ok, Err, IfOk, IfErr, OnOk, MatchResult, IsTrue, IsFalse, true, false};
+ghost use Rattle.std.specs.Prelude.{◌≡◌, ◌⊎◌, List, length, Ok, Err, IfOk, IfErr, OnOk, MatchResult, IsTrue, IsFalse, true, false};
 ghost use Rattle.db_header.specs.Header.{IsHeader};
 ghost use Rattle.sqlval.specs.Faults.{IsOrOutside, IsOutside};
 ghost use Rattle.db_header.specs.declared.fields.Header.{Header as FileHeader};
@@ -15,13 +15,15 @@ ghost use Rattle.disk.specs.File.{IsContentLeft, IsSynced, Throughout};
 ghost use Rattle.wal_frame.specs.Accepted.{KeepsFile};
 ghost use Rattle.wal.specs.LogState.{db_of, state_of, log_of};
 ghost use Rattle.session.specs.ConnectionState.{HasCause};
-ghost use Rattle.engine.specs.Creating.{CountsIo, is_blank_content};
+ghost use Rattle.pager_older.specs.Counting.{CountsIo};
+ghost use Rattle.engine.specs.Creating.{is_blank_content};
 ghost use Rattle.engine.specs.Opening.{HasPageSize, IsCutTo, KeepsFiles, KeepsFilesBut, LeavesOpened, ReadsHeader, StartsWith, TellsBlank};
 ghost use Rattle.sqlval.specs.declared.fault.Fault.TheVariants.{Io};
 ghost use Rattle.disk.specs.Calls.{Rose};
 ghost use Rattle.session.specs.Seats.{AreFresh, catalog_in};
 
 use crate::creating::is_blank;
+use crate::prepared::{Prepared, prepare};
 use catalog::Catalog;
 use db_header::Header;
 use db_load::load;
@@ -30,9 +32,10 @@ use disk::Disk;
 use pager::Reading;
 use row_scan::Rows;
 use session::{Connections, Seats};
+use sql_bound::bound;
 use sql_parser::{parse, release};
 use sqlval::limits::DATABASE_HEADER_LEN;
-use sqlval::{Fault, Misuse, R};
+use sqlval::{Fault, Feature, Misuse, R, Value};
 use std::alloc::Global;
 use wal::{Log, Refused, Synced, sync_both};
 use wal_frame::Salts;
@@ -152,6 +155,10 @@ impl<D: Disk + Drop> Engine<D> {
     ghost use Rattle.engine.specs.Serving.{GivesUp};
     ghost use Rattle.engine.specs.Representation.{StepsByText};
     ghost use Rattle.session.specs.Representation.{rows_reply};
+    ghost use Rattle.engine.specs.Preparing.{IsPrepared, StepsBound, TakesValues, parameters_in, statement_in};
+    ghost use Rattle.sql_grammar.specs.Texts.{IsStatementText};
+    ghost use Rattle.sql_parser.specs.Refusals.{IsTextRefusal};
+    ghost use Rattle.sql_syntax.specs.declared.statement.Statement.{Statement as Parsed};
 
     /// Opens a database: syncs both files, checks them, each page of the database among them, and cuts the log to its
     /// committed frames. A log that has no valid
@@ -231,6 +238,51 @@ impl<D: Disk + Drop> Engine<D> {
         let rows = self.connections.execute(connection, &statement);
         release(statement);
         rows
+    }
+
+    /// Reads a query or a change of rows, to be run with values: a place for one is the quoted name `"?1"`, `"?2"` and so on. (What `execute`
+    /// refuses of the text; `Unsupported(StatementForm)` for other statements.)
+    pub fn prepare(&self, text: &str) -> R<Prepared>
+        ensures is { IfOk result (IsPrepared text.now) }
+        ensures refused { IfErr result (λ fault. IsTextRefusal text.now fault
+            ⊎ ((fault ≡ Fault.Unsupported Feature.StatementForm)
+            × ((statement : Parsed) → IsStatementText text.now statement → TakesValues statement → ⊥))) }
+    {
+        prepare(self.alloc, text)
+    }
+
+    /// Executes a statement that was prepared, with these values in their places, on a connection, 1 to 16. (`Misuse(Count)` where these aren't
+    /// as many as there are places; else as `execute`.)
+    pub fn run_prepared(
+        &mut self,
+        connection: u32,
+        prepared: &Prepared,
+        values: &[Value],
+    ) -> R<Rows>
+        ensures failed { IsTrue (has_failed_of self.old) → (result ≡ Err Fault.Failed)
+            × (self.new ≡ self.old) }
+        ensures numbered { IsFalse (has_failed_of self.old) → IsNoConnection connection
+            → (result ≡ Err (Fault.Misuse Misuse.Connection)) × (self.new ≡ self.old) }
+        // As many values are wanted as there are places.
+        ensures placed { IsFalse (has_failed_of self.old) → (IsNoConnection connection → ⊥)
+            → (length values.now ≡ parameters_in prepared.now → ⊥)
+            → (result ≡ Err (Fault.Misuse Misuse.Count)) × (self.new ≡ self.old) }
+        ensures counted { CountsFailures result self.old self.new }
+        // The reply is a step of each machine that was represented, by the statement with these values in their places.
+        ensures step { IsFalse (has_failed_of self.old) → (IsNoConnection connection → ⊥)
+            → length values.now ≡ parameters_in prepared.now
+            → StepsBound self.old connection (statement_in prepared.now) values.now (rows_reply result) self.new }
+    {
+        self.connections.check(connection)?;
+        if values.len() != prepared.count() {
+            return Err(Fault::Misuse(Misuse::Count));
+        }
+        let Some(statement) = bound(self.alloc, &prepared.statement, values)? else {
+            return Err(Fault::Unsupported(Feature::StatementForm));
+        };
+        let reply = self.connections.execute(connection, &statement);
+        release(statement);
+        reply
     }
 
     /// Whether a commit or a checkpoint has failed, so that the files must be opened again.

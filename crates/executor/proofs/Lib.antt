@@ -1,3 +1,4 @@
+pub mod Calm
 pub mod AddedRows
 pub mod Answering
 pub mod Creations

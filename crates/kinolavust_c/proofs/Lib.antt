@@ -1,1 +1,5 @@
 mod Boxed
+mod Splitting
+mod Decoding
+mod Numbering
+mod Placing

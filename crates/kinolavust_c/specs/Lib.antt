@@ -1,3 +1,5 @@
 pub mod Owned
 pub mod Numbers
 pub mod Replies
+pub mod Slots
+pub mod Values

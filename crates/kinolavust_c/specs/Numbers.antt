@@ -1,7 +1,7 @@
 -- The numbers of refusals, as docs/ERRORS.md has them.
 use Rattle.std.specs.Prelude.{◌≡◌, ◌⊎◌, ℕ}
 use Rattle.sqlval.specs.declared.fault.Fault.{Fault}
-use Rattle.sqlval.specs.declared.fault.Fault.TheVariants.{Memory, Io, NotADatabase, Unsupported, Damaged, Full, Syntax, NoSuch, Exists, Ambiguous, Misuse, Busy, StaleSnapshot, NoTransaction, InTransaction, NoSavepoint, NotNull, Unique, Check, Raised, RealRefused, TypeRefused, RowidFull, RowidMismatch, TooLong, RowChangedBefore, ViewReadOnly, Failed, Blank}
+use Rattle.sqlval.specs.declared.fault.Fault.TheVariants.{Memory, Io, NotADatabase, Unsupported, Damaged, Full, Syntax, NoSuch, Exists, Ambiguous, Misuse, Busy, StaleSnapshot, NoTransaction, InTransaction, NoSavepoint, NotNull, Unique, Check, Raised, RealRefused, TypeRefused, RowidFull, RowidMismatch, TooLong, RowChangedBefore, ViewReadOnly, Failed, Blank, Journal}
 
 -- the number of a refusal
 abbrev pub refusal_number : Fault → ℕ
@@ -34,6 +34,7 @@ refusal_number RowChangedBefore = 26
 refusal_number ViewReadOnly = 27
 refusal_number Failed = 28
 refusal_number Blank = 29
+refusal_number Journal = 30
 
 -- what a call answers C: 0, or the number of a refusal
 abbrev pub IsAnswer : ℕ → Type 0

@@ -1,8 +1,13 @@
 //! What C calls. A handle is given back by each call, except for `close`, through `out`.
 
-ghost use Rattle.std.specs.Prelude.{◌≡◌, ◌==◌, IsTrue, length};
+ghost use Rattle.std.specs.Prelude.{◌≡◌, ◌==◌, List, None, IsTrue, cond, is_some, length};
+ghost use Rattle.std.specs.List.{flat_map};
+ghost use Rattle.engine.specs.Preparing.{IsPrepared, parameters_in};
+ghost use Rattle.engine.specs.declared.prepared.Prepared.{Prepared};
+ghost use Rattle.sqlval.specs.declared.value.Value.{Value};
 ghost use Rattle.kinolavust_c.specs.Numbers.{IsAnswer};
-ghost use Rattle.kinolavust_c.specs.Replies.{kept_reply};
+ghost use Rattle.kinolavust_c.specs.Replies.{kept_reply, value_bytes};
+ghost use Rattle.kinolavust_c.specs.Slots.{kept_in};
 
 use crate::handle::{Given, Handle};
 use crate::opened::{copy, open};
@@ -53,6 +58,58 @@ pub extern "C" fn kinolavust_session_execute(
 {
     let mut session = handle.into_box();
     let number = session.execute(connection, text);
+    out.put(session);
+    number
+}
+
+/// Reads a query or a change of rows, to be run with values: a place for one is the quoted name `"?1"`, `"?2"` and so on. Answers 0, and gives
+/// the statement's slot and how many values it takes; or answers the number of a refusal, whose reply is kept.
+#[unsafe(no_mangle)]
+pub extern "C" fn kinolavust_session_prepare(
+    handle: Handle,
+    text: &[u8],
+    slot: &mut usize,
+    count: &mut usize,
+    out: &mut Given,
+) -> u32
+    ensures answer { IsAnswer result }
+    ensures counted { result ≡ 0
+        → (statement : Prepared) × IsPrepared text.now statement × (count.new ≡ parameters_in statement) }
+{
+    let mut session = handle.into_box();
+    let number = session.prepare(text, slot, count);
+    out.put(session);
+    number
+}
+
+/// Runs the statement of a slot on a connection, 1 to 16, with values whose bytes are as those of a reply's row. Answers 0, or the number of
+/// a refusal: 11 for a slot that isn't in use, another count of values, or bytes that are those of no values. The reply is kept until the
+/// next one.
+#[unsafe(no_mangle)]
+pub extern "C" fn kinolavust_session_run(
+    handle: Handle,
+    connection: u32,
+    slot: usize,
+    values: &[u8],
+    out: &mut Given,
+) -> u32
+    ensures answer { IsAnswer result }
+    ensures unused { kept_in handle.session.slots slot ≡ None → result ≡ 11 }
+    ensures read { result ≡ 0 → (read : List Value) × (values.now ≡ flat_map value_bytes read) }
+{
+    let mut session = handle.into_box();
+    let number = session.run(connection, slot, values);
+    out.put(session);
+    number
+}
+
+/// Lets go of the statement of a slot, which is then free. Answers 0, or 11 for a slot that isn't in use.
+#[unsafe(no_mangle)]
+pub extern "C" fn kinolavust_session_finish(handle: Handle, slot: usize, out: &mut Given) -> u32
+    ensures { result ≡ cond (is_some (kept_in handle.session.slots slot)) 0 11 }
+{
+    let mut session = handle.into_box();
+    let number = session.finish(slot);
     out.put(session);
     number
 }

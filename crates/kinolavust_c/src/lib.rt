@@ -6,3 +6,5 @@ mod exports;
 mod handle;
 mod opened;
 mod replies;
+mod slots;
+mod values;

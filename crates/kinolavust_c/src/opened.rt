@@ -1,23 +1,39 @@
 //! An open database over the bytes of its files.
 
-ghost use Rattle.std.specs.Prelude.{◌≡◌, ◌==◌, List, IfOk, IsTrue, length};
+ghost use Rattle.std.specs.Prelude.{◌≡◌, ◌==◌, ◌⊎◌, List, Err, None, IfErr, IfOk, IsTrue, MatchResult, cond, is_some, length};
+ghost use Rattle.std.specs.List.{flat_map};
 ghost use Rattle.smallvec.specs.SmallVec.{SmallVec};
 ghost use Rattle.sqlval.specs.declared.value.Value.{Value};
-ghost use Rattle.kinolavust_c.specs.Replies.{IsReply, kept_reply, rows_bytes};
+ghost use Rattle.kinolavust_c.specs.Numbers.{refusal_number};
+ghost use Rattle.kinolavust_c.specs.Replies.{IsReply, kept_reply, rows_bytes, value_bytes};
+ghost use Rattle.kinolavust_c.specs.Slots.{Prepares, Puts, kept_in};
 
 use crate::replies::{number, put_rows, refusal_or_nothing};
+use crate::slots::Slots;
+use crate::values::values_of;
 use disk_image::{File, ImageDisk, Journal};
 use engine::{Engine, Refused, Salts, create};
 use sqlval::{Fault, Misuse, R, Row};
 use std::alloc::Global;
 
-/// An open database, with the reply to the last statement.
+/// An open database, with its prepared statements, and the reply to the last statement.
 #[derive(Drop)]
 pub struct Session {
     alloc: Global,
     engine: Engine<ImageDisk>,
     journal: Journal,
+    slots: Slots,
     reply: Vec<u8>,
+}
+
+/// A statement as text. One that isn't UTF-8 is refused.
+fn statement_text(text: &[u8]) -> R<&str>
+    ensures { IfOk result (λ same. same.now ≡ text.now) }
+{
+    match str::from_utf8(text) {
+        Ok(text) => Ok(text),
+        Err(_) => Err(Fault::Misuse(Misuse::InputLine)),
+    }
 }
 
 /// Rows as bytes.
@@ -83,6 +99,7 @@ pub fn open(alloc: Global, db: &[u8], log: &[u8], page_size: u32, salts: Salts) 
         alloc,
         engine,
         journal,
+        slots: Slots::new(alloc),
         reply: Vec::new(alloc),
     };
     Ok(Box::new(alloc, session)?)
@@ -93,18 +110,49 @@ impl Session {
     fn rows(&mut self, connection: u32, text: &[u8]) -> R<Vec<u8>>
         ensures { IfOk result (λ bytes. (rows : List (SmallVec Value)) × (bytes.items ≡ rows_bytes rows)) }
     {
-        let Ok(text) = str::from_utf8(text) else {
-            return Err(Fault::Misuse(Misuse::InputLine));
-        };
+        let text = statement_text(text)?;
         let rows = self.engine.execute(connection, text)?;
         bytes_of(self.alloc, rows.as_slice())
     }
 
-    /// Executes a statement on a connection, and keeps the reply. Answers 0, or the number of a refusal.
-    pub fn execute(&mut self, connection: u32, text: &[u8]) -> u32
-        ensures { IsReply result (kept_reply self.new) }
+    /// The rows of the reply of a statement that was prepared, as bytes. A slot that isn't in use is refused, and bytes that are those of no
+    /// values.
+    fn prepared_rows(&mut self, connection: u32, slot: usize, values: &[u8]) -> R<Vec<u8>>
+        ensures rows { IfOk result (λ bytes. (rows : List (SmallVec Value)) × (bytes.items ≡ rows_bytes rows)) }
+        ensures unused { kept_in self.old.slots slot ≡ None → result ≡ Err (Fault.Misuse Misuse.InputLine) }
+        ensures read { IfOk result (λ _. (read : List Value) × (values.now ≡ flat_map value_bytes read)) }
+        ensures same { self.new.slots ≡ self.old.slots }
     {
-        match self.rows(connection, text) {
+        let Some(statement) = self.slots.get(slot) else {
+            return Err(Fault::Misuse(Misuse::InputLine));
+        };
+        let values = values_of(self.alloc, values)?;
+        let rows = self
+            .engine
+            .run_prepared(connection, statement, values.as_slice())?;
+        bytes_of(self.alloc, rows.as_slice())
+    }
+
+    /// Reads a statement and keeps it. Answers its slot, and how many values it takes.
+    fn kept_statement(&mut self, text: &[u8]) -> R<(usize, usize)>
+        ensures kept { IfOk result (λ kept. Prepares self.old.slots text.now kept.0 kept.1 self.new.slots) }
+    {
+        let text = statement_text(text)?;
+        let statement = self.engine.prepare(text)?;
+        let count = statement.count();
+        let statement = Box::new(self.alloc, statement)?;
+        let slot = self.slots.keep(statement)?;
+        Ok((slot, count))
+    }
+
+    /// Keeps the reply of rows, or of a refusal. Answers 0, or the number of the refusal.
+    fn keep(&mut self, reply: R<Vec<u8>>) -> u32
+        requires { IfOk reply (λ bytes. (rows : List (SmallVec Value)) × (bytes.items ≡ rows_bytes rows)) }
+        ensures reply { IsReply result (kept_reply self.new) }
+        ensures number { MatchResult reply (λ _. result ≡ 0) (λ fault. result ≡ refusal_number fault) }
+        ensures same { self.new.slots ≡ self.old.slots }
+    {
+        match reply {
             Ok(bytes) => {
                 self.reply = bytes;
                 0
@@ -114,6 +162,55 @@ impl Session {
                 number(&fault)
             }
         }
+    }
+
+    /// Executes a statement on a connection, and keeps the reply. Answers 0, or the number of a refusal.
+    pub fn execute(&mut self, connection: u32, text: &[u8]) -> u32
+        ensures { IsReply result (kept_reply self.new) }
+    {
+        let reply = self.rows(connection, text);
+        self.keep(reply)
+    }
+
+    /// Reads a statement, to be run with values, and gives its slot and how many values it takes. Answers 0, or the number of a refusal.
+    pub fn prepare(&mut self, text: &[u8], slot: &mut usize, count: &mut usize) -> u32
+        ensures reply { IsReply result (kept_reply self.new) }
+        ensures kept { result ≡ 0 → Prepares self.old.slots text.now slot.new count.new self.new.slots }
+    {
+        let alloc = self.alloc;
+        match self.kept_statement(text) {
+            Ok((kept, taken)) => {
+                *slot = kept;
+                *count = taken;
+                self.keep(Ok(Vec::new(alloc)))
+            }
+            Err(fault) => self.keep(Err(fault)),
+        }
+    }
+
+    /// Runs the statement of a slot with values on a connection, and keeps the reply. Answers 0, or the number of a refusal.
+    pub fn run(&mut self, connection: u32, slot: usize, values: &[u8]) -> u32
+        ensures reply { IsReply result (kept_reply self.new) }
+        ensures unused { kept_in self.old.slots slot ≡ None → result ≡ 11 }
+        ensures read { result ≡ 0 → (read : List Value) × (values.now ≡ flat_map value_bytes read) }
+        ensures same { self.new.slots ≡ self.old.slots }
+    {
+        let reply = self.prepared_rows(connection, slot, values);
+        self.keep(reply)
+    }
+
+    /// Lets go of the statement of a slot. Answers 0, or the number of a refusal.
+    pub fn finish(&mut self, slot: usize) -> u32
+        ensures reply { IsReply result (kept_reply self.new) }
+        ensures was { result ≡ cond (is_some (kept_in self.old.slots slot)) 0 11 }
+        ensures free { Puts self.old.slots slot None self.new.slots }
+    {
+        let alloc = self.alloc;
+        let reply = match self.slots.finish(slot) {
+            true => Ok(Vec::new(alloc)),
+            false => Err(Fault::Misuse(Misuse::InputLine)),
+        };
+        self.keep(reply)
     }
 
     /// The reply to the last statement.

@@ -105,6 +105,7 @@ pub fn number(fault: &Fault) -> u32
         Fault::ViewReadOnly => 27,
         Fault::Failed => 28,
         Fault::Blank => 29,
+        Fault::Journal => 30,
     }
 }
 

@@ -7,9 +7,9 @@ fn unsupported(feature: Feature) -> &'static str {
     match feature {
         Feature::Float => "a real number in the file isn't supported",
         Feature::RealColumn => "a column of type REAL, FLOAT or DOUBLE isn't supported",
-        Feature::PageSize => "the page size isn't a power of two from 512 to 32768",
+        Feature::PageSize => "the page size isn't a power of two from 512 to 65536",
         Feature::FileVersion => {
-            "the database file isn't in WAL mode: run PRAGMA journal_mode = WAL in sqlite3 first"
+            "the database file isn't in WAL mode: convert it first, as walsql --convert does"
         }
         Feature::ReservedBytes => "reserved bytes at the end of pages aren't supported",
         Feature::SchemaFormat => "a schema format other than 4 isn't supported",
@@ -76,6 +76,7 @@ fn misused(misuse: Misuse) -> &'static str {
         Misuse::Raise => "RAISE stands outside a trigger",
         Misuse::TriggerTime => "BEFORE and AFTER are for tables, INSTEAD OF is for views",
         Misuse::ViewInItself => "a view uses itself",
+        Misuse::LogNotEmpty => "the log isn't empty, and the database file isn't in WAL mode",
     }
 }
 
@@ -111,5 +112,6 @@ pub fn sentence(fault: &Fault) -> &'static str {
         Fault::ViewReadOnly => "a view can't be changed without an INSTEAD OF trigger",
         Fault::Failed => "an earlier commit or checkpoint failed: open the database again",
         Fault::Blank => "the database file is blank",
+        Fault::Journal => "a rollback journal lies beside the database file",
     }
 }

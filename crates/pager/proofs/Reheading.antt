@@ -2,7 +2,7 @@
 use Rattle.std.proofs.Common.{◌≡◌, ◌⊎◌, inl, inr, ℕ, suc, List, [], ◌∷◌, Bool, true, false, length, refl, sym, ◌∙◌, ap, subst, arith}
 use Rattle.std.specs.Prelude.{IsTrue, IsFalse}
 use Rattle.sqlval.specs.declared.fault.Fault.{Fault}
-use Rattle.sqlval.specs.declared.fault.Fault.TheVariants.{Memory, Io, NotADatabase, Unsupported, Damaged, Full, Syntax, NoSuch, Exists, Ambiguous, Misuse, Busy, StaleSnapshot, NoTransaction, InTransaction, NoSavepoint, NotNull, Unique, Check, Raised, RealRefused, TypeRefused, RowidFull, RowidMismatch, TooLong, RowChangedBefore, ViewReadOnly, Failed, Blank}
+use Rattle.sqlval.specs.declared.fault.Fault.TheVariants.{Memory, Io, NotADatabase, Unsupported, Damaged, Full, Syntax, NoSuch, Exists, Ambiguous, Misuse, Busy, StaleSnapshot, NoTransaction, InTransaction, NoSavepoint, NotNull, Unique, Check, Raised, RealRefused, TypeRefused, RowidFull, RowidMismatch, TooLong, RowChangedBefore, ViewReadOnly, Failed, Blank, Journal}
 use Rattle.sqlval.specs.declared.fault.Damage.TheVariants as damage
 use Rattle.db_header.specs.declared.fields.Header.{Header}
 use Rattle.db_header.specs.Header.{IsHeader}
@@ -70,6 +70,7 @@ refusal_is_few has_failed Are Within old new failed fails RowChangedBefore whole
 refusal_is_few has_failed Are Within old new failed fails ViewReadOnly whole are why = absurd why
 refusal_is_few has_failed Are Within old new failed fails Failed whole are why = absurd (clash has_failed whole why.1)
 refusal_is_few has_failed Are Within old new failed fails Blank whole are why = absurd why
+refusal_is_few has_failed Are Within old new failed fails Journal whole are why = absurd why
 
 pub few_keep : {D : Type 0} (has_failed : Bool) (Are Within : Type 0) (old new : D) (failed fails : ℕ) (fault : Fault) → IsFew Within fault → (fault ≡ Io → ⊥) → IsCommitRefusal has_failed Are Within old new failed fails fault → new ≡ old
 few_keep has_failed Are Within old new failed fails fault (inl is) other why = subst (IsCommitRefusal has_failed Are Within old new failed fails) is why

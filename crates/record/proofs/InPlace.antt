@@ -1,15 +1,16 @@
 -- The values in bytes, each by itself.
-use Rattle.std.proofs.Common.{◌≡◌, inl, inr, eqb, ℕ, zero, suc, ◌+◌, ◌-◌, ◌<◌, ◌≤◌, List, [], ◌∷◌, ◌++◌, length, drop, Option, Some, None, Ok, Err, refl, sym, ap, ◌∙◌, append_assoc, arith}
+use Rattle.std.proofs.Common.{◌≡◌, inl, inr, eqb, ℕ, zero, suc, ◌+◌, ◌-◌, ◌<◌, ◌≤◌, Bool, true, false, cond, nat_lt, List, [], ◌∷◌, ◌++◌, length, take, drop, Option, Some, None, Result, Ok, Err, refl, sym, ap, ◌∙◌, append_assoc, arith}
 use Rattle.std.proofs.lemmas.Bool.{eqb-true}
 use Rattle.std.proofs.lemmas.List.{append-nil}
 use Rattle.std.specs.Prelude.{option_map, slice_get, unwrap_or}
 use Rattle.sqlval.specs.declared.value.Value.{Value}
 use Rattle.sqlval.specs.declared.value.Value.TheVariants.{Null}
+use Rattle.record.specs.declared.field.Wrong.{Wrong}
 use Rattle.record.specs.declared.field.Wrong.TheVariants.{Broken}
 use Rattle.record.specs.Varint.{varint_at}
 use Rattle.record.specs.Record.{IsRecord}
-use Rattle.record.specs.Reading.{◌>>=◌, body_len, column_at, columns_at, halves_at, record_at}
-use Rattle.record.specs.Columns.{and_those_after, left_after, or_null, value_here, values_from, values_in, values_of_halves}
+use Rattle.record.specs.Reading.{◌>>=◌, body_len, body_at, column_at, columns_at, halves_at, record_at}
+use Rattle.record.specs.Columns.{and_those_after, body_or_null, left_after, or_null, value_here, value_typed, values_from, values_in, values_of_halves}
 use Rattle.record.proofs.ColumnLemmas.{bind_ok, ok_is, column_takes, varint_shortens}
 use Rattle.record.proofs.RecordLemmas.{record_again}
 use Rattle.record.proofs.VarintLemmas.{chosen, some_is}
@@ -113,6 +114,20 @@ values_enough (suc m) zero (b ∷ types) bodies le le' = absurd (omega (arith, l
 values_enough (suc m) (suc k) (b ∷ types) bodies le le' =
     same_after (value_here (b ∷ types) bodies) (values_from m) (values_from k) (left_after (b ∷ types) bodies)
     (λ left e. let shorter = left_shorter (b ∷ types) bodies left e in values_enough m k left.0 left.1 (omega (arith, shorter, le)) (omega (arith, shorter, le')))
+
+-- what a type says of the value, and of what it leaves
+pub typed_is : (types bodies : List ℕ) (serial : ℕ) (types_left : List ℕ) → Some (serial, types_left) ≡ varint_at types → value_typed serial bodies ≡ value_here types bodies
+unfolding column_at
+typed_is types bodies serial types_left e =
+    rw (sym e) (same (nat_lt (length bodies) (body_len serial)) (body_at serial (take (body_len serial) bodies)))
+  where
+    same : (short : Bool) (read : Result Value Wrong) → cond short Null (body_or_null read) ≡ or_null (cond short (Err Broken) (read >>= λ value. Ok (value, types_left, drop (body_len serial) bodies)))
+    same true read = refl
+    same false (Ok value) = refl
+    same false (Err wrong) = refl
+
+pub typed_leaves : (types bodies : List ℕ) (serial : ℕ) (types_left : List ℕ) → Some (serial, types_left) ≡ varint_at types → Some (types_left, drop (body_len serial) bodies) ≡ left_after types bodies
+typed_leaves types bodies serial types_left e = ap (option_map (λ (serial : ℕ × List ℕ). (serial.1, drop (body_len serial.0) bodies))) e
 
 -- the values so far and those that are left, one turn later
 pub values_on : (front all : List Value) (types bodies types_left bodies_left : List ℕ) (value : Value) → Some (types_left, bodies_left) ≡ left_after types bodies

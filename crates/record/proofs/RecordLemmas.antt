@@ -1,5 +1,6 @@
 -- What is read is a record of the values, and a record of values is read as these.
 use Rattle.std.proofs.Common.{◌≡◌, inl, inr, ℕ, zero, suc, ℤ, ◌+◌, ◌*◌, ◌-◌, ◌/◌, ◌%◌, ◌<◌, ◌≤◌, true, false, cond, nat_lt, eqb, List, [], ◌∷◌, ◌++◌, length, take, drop, Some, Result, Ok, Err, refl, sym, ap, subst, ◌∙◌, arith}
+use Rattle.byteorder.specs.Endian.{big_number, twos_complement}
 use Rattle.std.specs.Str.{is_utf8, IsUtf8}
 use Rattle.std.proofs.lemmas.Bool.{ltb-true, ltb-false, lt-ltb, le-ltb, eqb-true, eqb-false, ne_eqb}
 use Rattle.std.proofs.lemmas.Bool.Decides.{nat_tests}
@@ -39,6 +40,14 @@ wide_again serial body n w =
     let zero_not : eqb serial 0 ≡ false = ne_eqb _ _ (λ e. omega (arith, w.low)) in
     let below : nat_lt serial 7 ≡ true = lt-ltb _ _ (omega (arith, w.high)) in
     (len, rw (zero_not, below, w.len, w.value) refl)
+
+-- an integer at one of the types 1 to 6
+pub wide_reads : (serial : ℕ) (body : List ℕ) (n : ℤ) → 1 ≤ serial → serial ≤ 6 → n ≡ twos_complement (length body) (big_number (length body) body) → body_at serial body ≡ Ok (Int n)
+unfolding body_at
+wide_reads serial body n low high is =
+    let zero_not : eqb serial 0 ≡ false = ne_eqb _ _ (λ e. omega (arith, low)) in
+    let below : nat_lt serial 7 ≡ true = lt-ltb _ _ (omega (arith, high)) in
+    rw (zero_not, below, is) refl
 
 pub body_again : (serial : ℕ) (body : List ℕ) (value : Value) → IsBody serial body value → Fine serial body value
 unfolding body_at body_len

@@ -1,6 +1,6 @@
 -- What is written is a record of the values.
-use Rattle.std.proofs.Common.{◌≡◌, inl, inr, ℕ, zero, suc, ℤ, pos, negsuc, ◌-ℤ◌, ◌+◌, ◌*◌, ◌-◌, ◌%◌, ◌^◌, ◌<◌, ◌≤◌, false, cond, nat_lt, List, [], ◌∷◌, ◌++◌, length, map, take, drop, refl, sym, ap, subst, ◌∙◌, append_assoc, arith}
-use Rattle.std.specs.Int.{w64, bytes_high_first}
+use Rattle.std.proofs.Common.{◌≡◌, inl, inr, ℕ, zero, suc, ℤ, pos, negsuc, ◌-ℤ◌, ◌+◌, ◌*◌, ◌-◌, ◌%◌, ◌^◌, ◌<◌, ◌≤◌, false, cond, nat_lt, List, [], ◌∷◌, ◌++◌, length, map, refl, sym, ap, subst, ◌∙◌, append_assoc, arith}
+use Rattle.std.specs.Int.{w64}
 use Rattle.std.specs.Prelude.{Result, Ok, Err, IfOk, OnOk, All}
 use Rattle.std.specs.Global.{Vec}
 use Rattle.sqlval.specs.declared.fault.Fault.{Fault}
@@ -130,38 +130,6 @@ value_is_written (Blob b) fits storable = ((refl, refl), omega arith)
 
 -- ---- lengths
 
--- the last bytes of all eight are the lowest bytes
-abbrev AreLast : ℕ → Type 0
-AreLast w = (x : ℕ) → take (8 - (8 - w)) (drop (8 - w) (bytes_high_first 8 x)) ≡ bytes_high_first w (x % 2 ^ (8 * w))
-
-last_1 : AreLast 1
-last_1 x = grind arith
-
-last_2 : AreLast 2
-last_2 x = grind arith
-
-last_3 : AreLast 3
-last_3 x = grind arith
-
-last_4 : AreLast 4
-last_4 x = grind arith
-
-last_6 : AreLast 6
-last_6 x = grind arith
-
-last_8 : AreLast 8
-last_8 x = grind arith
-
-pub lowest_are_last : (serial x : ℕ) → 1 ≤ serial → serial ≤ 6 → take (8 - (8 - width serial)) (drop (8 - width serial) (bytes_high_first 8 x)) ≡ bytes_high_first (width serial) (x % 2 ^ (8 * width serial))
-lowest_are_last zero x low high = absurd (omega arith)
-lowest_are_last (suc zero) x low high = last_1 x
-lowest_are_last (suc (suc zero)) x low high = last_2 x
-lowest_are_last (suc (suc (suc zero))) x low high = last_3 x
-lowest_are_last (suc (suc (suc (suc zero)))) x low high = last_4 x
-lowest_are_last (suc (suc (suc (suc (suc zero))))) x low high = last_6 x
-lowest_are_last (suc (suc (suc (suc (suc (suc zero)))))) x low high = last_8 x
-lowest_are_last (suc (suc (suc (suc (suc (suc (suc k))))))) x low high = absurd (omega arith)
-
 wide_high : (n : ℕ) → wide_type n ≤ 6
 unfolding wide_type
 wide_high n = grind (arith, nat_tests)
@@ -237,7 +205,7 @@ types_short [] = omega arith
 types_short (value ∷ values) = omega (arith, types_short values, length-append (type_of value) (flat_map type_of values), length_varint_le (serial_of value))
 
 -- the length of the header counts its own bytes
-header_counts : (types : ℕ) → types < 16382 → length (varint (header_len types)) + types ≡ header_len types
+pub header_counts : (types : ℕ) → types < 16382 → length (varint (header_len types)) + types ≡ header_len types
 unfolding header_len
 header_counts types small =
     elim (cases_lt types 127) [

@@ -1,16 +1,25 @@
 -- The values in bytes, each by itself: of a record they are its values (Database File Format, "Record Format").
-use Rattle.std.specs.Prelude.{◌≡◌, ℕ, zero, suc, List, [], ◌∷◌, length, drop, Option, Some, None, option_map, Result, Ok, Err}
+use Rattle.std.specs.Prelude.{◌≡◌, ℕ, zero, suc, List, [], ◌∷◌, length, take, drop, nat_lt, if◌then◌else◌, Option, Some, None, option_map, Result, Ok, Err}
 use Rattle.sqlval.specs.declared.value.Value.{Value}
 use Rattle.sqlval.specs.declared.value.Value.TheVariants.{Null}
 use Rattle.record.specs.declared.field.Wrong.{Wrong}
 use Rattle.record.specs.Varint.{varint_at}
 use Rattle.record.specs.Record.{IsRecord}
-use Rattle.record.specs.Reading.{body_len, column_at, halves_at}
+use Rattle.record.specs.Reading.{body_len, body_at, column_at, halves_at}
 
 -- the value that was read, or NULL
 abbrev pub or_null : Result (Value × List ℕ × List ℕ) Wrong → Value
 or_null (Ok column) = column.0
 or_null (Err wrong) = Null
+
+-- the value of a body, or NULL
+abbrev pub body_or_null : Result Value Wrong → Value
+body_or_null (Ok value) = value
+body_or_null (Err wrong) = Null
+
+-- the value of this type at the front of bodies; NULL where it can't be read
+abbrev pub value_typed : ℕ → List ℕ → Value
+value_typed serial bodies = if nat_lt (length bodies) (body_len serial) then Null else body_or_null (body_at serial (take (body_len serial) bodies))
 
 -- the value at the front of types and bodies; NULL where none can be read
 abbrev pub value_here : List ℕ → List ℕ → Value

@@ -5,7 +5,7 @@ ghost use Rattle.sqlval.specs.declared.value.Value.TheVariants.{Null};
 ghost use Rattle.sqlval.specs.Fields.{value_of};
 ghost use Rattle.record.specs.Columns.{HoldsValues, left_after, value_here, values_from, values_in};
 
-use crate::field::{body_size, read_field};
+use crate::field::{body_size, field_typed};
 use crate::row::halves_of;
 use crate::varint::get_varint;
 use sqlval::{Field, Many, Value};
@@ -25,24 +25,9 @@ fn after_value<'a>(types: &'a [u8], bodies: &'a [u8]) -> Option<(&'a [u8], &'a [
 fn first_value<'a>(types: &'a [u8], bodies: &'a [u8]) -> Field<'a>
     ensures { value_of result ≡ value_here types.now bodies.now }
 {
-    match read_field(types, bodies) {
-        Ok((field, _, _)) => field,
-        Err(_) => Field::Null,
-    }
-}
-
-/// The first value, NULL where none can be read, and what is left of the types and of the bodies after it.
-fn next_value<'a>(types: &'a [u8], bodies: &'a [u8]) -> Option<(Field<'a>, &'a [u8], &'a [u8])>
-    ensures left { option_map (λ found. (found.1.now, found.2.now)) result ≡ left_after types.now bodies.now }
-    ensures value { IfSome result (λ found. value_of found.0 ≡ value_here types.now bodies.now) }
-    ensures shorter { IfSome result (λ found. length found.1.now < length types.now) }
-{
-    match read_field(types, bodies) {
-        Ok(found) => Some(found),
-        Err(_) => {
-            let (types_left, bodies_left) = after_value(types, bodies)?;
-            Some((Field::Null, types_left, bodies_left))
-        }
+    match get_varint(types) {
+        Some((serial, _)) => field_typed(serial, bodies).0,
+        None => Field::Null,
     }
 }
 
@@ -71,14 +56,12 @@ fn all_fields<'a>(
 ) -> Result<Vec<Field<'a>>, AllocError>
     ensures { IfOk result (λ fields. map value_of fields.items ≡ values_from (length types.now) types.now bodies.now) }
 {
-    let mut fields = Vec::with_capacity(alloc, types.len().min(64))?;
+    let mut fields = Vec::with_capacity(alloc, types.len())?;
     let mut types_left = types;
     let mut bodies_left = bodies;
-    'columns: while let Some((field, types_after, bodies_after)) = next_value(
-        types_left,
-        bodies_left,
-    ) {
-        fields.push(field)?;
+    'columns: while let Some((serial, types_after)) = get_varint(types_left) {
+        let (field, bodies_after) = field_typed(serial, bodies_left);
+        fields.push_reserved(field);
         types_left = types_after;
         bodies_left = bodies_after;
     }

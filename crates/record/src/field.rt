@@ -1,7 +1,9 @@
 //! One value of a record, where it lies.
 
-ghost use Rattle.std.specs.Prelude.{◌≡◌, length};
+ghost use Rattle.std.specs.Prelude.{◌≡◌, ◌≤◌, drop, length};
+ghost use Rattle.byteorder.specs.Endian.{big_number, twos_complement};
 ghost use Rattle.sqlval.specs.Fields.{value_of};
+ghost use Rattle.record.specs.Columns.{value_typed};
 ghost use Rattle.record.specs.Reading.{Reads, body_len, body_at, text_at, column_at, fault_of};
 
 use crate::varint::get_varint;
@@ -29,6 +31,7 @@ impl From<Wrong> for Fault {
 }
 
 /// The bytes that a value of this serial type takes.
+#[inline(always)]
 #[tactic(auto, unfolding(crate::specs::Reading::body_len))]
 pub(crate) fn body_size(serial: u64) -> u64
     ensures { result ≡ body_len serial }
@@ -52,6 +55,8 @@ fn read_text(body: &[u8]) -> Result<Field<'_>, Wrong>
     }
 }
 
+/// The value of this type with this body.
+#[inline(always)]
 #[tactic(auto, unfolding(crate::specs::Reading::body_at, crate::specs::Reading::body_len))]
 fn read_body(serial: u64, body: &[u8]) -> Result<Field<'_>, Wrong>
     requires { length body.now ≡ body_len serial }
@@ -59,7 +64,12 @@ fn read_body(serial: u64, body: &[u8]) -> Result<Field<'_>, Wrong>
 {
     match serial {
         0 => Ok(Field::Null),
-        1..=6 => Ok(Field::Int(BigEndian::read_int(body, body.len()))),
+        1 => Ok(Field::Int(i64::from(body[0].cast_signed()))),
+        2 => Ok(Field::Int(i64::from(BigEndian::read_i16(body)))),
+        3 => Ok(Field::Int(i64::from(BigEndian::read_i24(body)))),
+        4 => Ok(Field::Int(i64::from(BigEndian::read_i32(body)))),
+        5 => Ok(Field::Int(BigEndian::read_i48(body))),
+        6 => Ok(Field::Int(BigEndian::read_i64(body))),
         7 => Err(Wrong::Float),
         8 => Ok(Field::Int(0)),
         9 => Ok(Field::Int(1)),
@@ -69,7 +79,25 @@ fn read_body(serial: u64, body: &[u8]) -> Result<Field<'_>, Wrong>
     }
 }
 
+/// The value of this type at the front of the bodies, NULL where it can't be read, and the bodies after it.
+#[inline(always)]
+pub(crate) fn field_typed<'a>(serial: u64, bodies: &'a [u8]) -> (Field<'a>, &'a [u8])
+    ensures value { value_of result.0 ≡ value_typed serial bodies.now }
+    ensures left { result.1.now ≡ drop (body_len serial) bodies.now }
+{
+    let size = body_size(serial);
+    if (bodies.len() as u64) < size {
+        return (Field::Null, &[]);
+    }
+    let (body, left) = bodies.split_at(size as usize);
+    match read_body(serial, body) {
+        Ok(field) => (field, left),
+        Err(_) => (Field::Null, left),
+    }
+}
+
 /// The first value, and what is left of the types and of the bodies.
+#[inline]
 #[tactic(auto, unfolding(crate::specs::Reading::column_at))]
 pub fn read_field<'a>(
     types: &'a [u8],

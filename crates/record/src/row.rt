@@ -16,6 +16,7 @@ use std::alloc::Global;
 use std::marker::Model;
 
 /// The types and the bodies of a record.
+#[inline(always)]
 #[tactic(auto, unfolding(crate::specs::Reading::halves_at))]
 pub fn halves_of(bytes: &[u8]) -> Result<(&[u8], &[u8]), Wrong>
     ensures { Reads (λ found. (found.0.now, found.1.now)) result (halves_at bytes.now) }

@@ -1,12 +1,13 @@
 //! Variable-length integers.
 
-ghost use Rattle.std.specs.Prelude.{◌≡◌, ◌≤◌, ◌++◌, ℕ, List, length, OnOk, IfSome, IsSomeAnd, option_map};
+ghost use Rattle.std.specs.Prelude.{◌≡◌, ◌≤◌, ◌+◌, ◌++◌, ℕ, List, length, vec_capacity, OnOk, IfSome, IsSomeAnd, option_map};
 ghost use Rattle.record.specs.Varint.{IsVarint, IsShortestVarint, varint_at, high_count, going_on, varint};
 
 use std::alloc::AllocError;
 
 /// The number at the front, and the bytes after it; None where no whole varint stands there. Every spelling is read,
 /// not the shortest alone. A signed number is spelled as its 64 bits: callers cast.
+#[inline(always)]
 pub fn get_varint(bytes: &[u8]) -> Option<(u64, &[u8])>
     // What is read is a spelling of the number,
     ensures found { IfSome result (λ found. (text : List ℕ) × (bytes.now ≡ text ++ found.1.now)
@@ -20,6 +21,7 @@ pub fn get_varint(bytes: &[u8]) -> Option<(u64, &[u8])>
 }
 
 /// Most numbers are one byte.
+#[inline(always)]
 #[tactic(auto, unfolding(crate::specs::Varint::varint_at))]
 fn read(bytes: &[u8]) -> Option<(u64, &[u8])>
     ensures { option_map (λ found. (found.0, found.1.now)) result ≡ varint_at bytes.now }
@@ -32,6 +34,7 @@ fn read(bytes: &[u8]) -> Option<(u64, &[u8])>
 }
 
 /// A number of any length, digit by digit.
+#[inline(never)]
 #[tactic(auto, unfolding(crate::specs::Varint::varint_at))]
 fn read_digits(bytes: &[u8]) -> Option<(u64, &[u8])>
     ensures { option_map (λ found. (found.0, found.1.now)) result ≡ varint_at bytes.now }
@@ -89,7 +92,8 @@ pub fn varint_len(n: u64) -> usize
 
 /// Writes the bytes that go on.
 fn put_high(out: &mut Vec<u8>, n: u64, count: u32) -> Result<(), AllocError>
-    ensures { OnOk result (out.new.items ≡ out.old.items ++ going_on count n) }
+    ensures exact { OnOk result (out.new.items ≡ out.old.items ++ going_on count n) }
+    ensures capacity { vec_capacity out.old ≤ vec_capacity out.new }
 {
     if count > 0 {
         put_high(out, n / 128, count - 1)?;
@@ -107,9 +111,24 @@ pub fn put_varint(out: &mut Vec<u8>, n: u64) -> Result<(), AllocError>
     write(out, n)
 }
 
+/// Writes a number where there is room for it: most take one byte.
+#[inline(always)]
+pub(crate) fn put_reserved(out: &mut Vec<u8>, n: u64) -> Result<(), AllocError>
+    requires { length out.old.items + length (varint n) ≤ vec_capacity out.old }
+    ensures exact { OnOk result (out.new.items ≡ out.old.items ++ varint n) }
+    ensures capacity { vec_capacity out.old ≤ vec_capacity out.new }
+{
+    if n < 1 << 7 {
+        out.push_reserved(n as u8);
+        return Ok(());
+    }
+    write(out, n)
+}
+
 /// Most numbers take one byte or two.
 fn write(out: &mut Vec<u8>, n: u64) -> Result<(), AllocError>
-    ensures { OnOk result (out.new.items ≡ out.old.items ++ varint n) }
+    ensures exact { OnOk result (out.new.items ≡ out.old.items ++ varint n) }
+    ensures capacity { vec_capacity out.old ≤ vec_capacity out.new }
 {
     if n < 1 << 7 {
         out.push(n as u8)?;
@@ -125,7 +144,8 @@ fn write(out: &mut Vec<u8>, n: u64) -> Result<(), AllocError>
 /// A number of any length, digit by digit.
 #[tactic(auto, unfolding(crate::specs::Varint::varint))]
 fn write_digits(out: &mut Vec<u8>, n: u64) -> Result<(), AllocError>
-    ensures { OnOk result (out.new.items ≡ out.old.items ++ varint n) }
+    ensures exact { OnOk result (out.new.items ≡ out.old.items ++ varint n) }
+    ensures capacity { vec_capacity out.old ≤ vec_capacity out.new }
 {
     if n < 1 << 56 {
         put_high(out, n / 128, count_high(n))?;

@@ -1,17 +1,19 @@
 //! Rows written as records.
 
-ghost use Rattle.std.specs.Prelude.{◌≡◌, ◌⊎◌, ◌<◌, ◌≤◌, ◌++◌, ◌↔◌, IsTrue, ℕ, List, length, map, All, IfOk, IfErr, OnOk};
+ghost use Rattle.std.specs.Prelude.{◌≡◌, ◌⊎◌, ◌<◌, ◌≤◌, ◌+◌, ◌++◌, ◌↔◌, IsTrue, ℕ, List, length, vec_capacity, map, All, IfOk, IfErr, OnOk};
 ghost use Rattle.std.specs.List.{flat_map};
 ghost use Rattle.sqlval.specs.Fields.{value_of};
-ghost use Rattle.record.specs.Record.{width, IsRecord};
+ghost use Rattle.record.specs.Record.{IsRecord};
 ghost use Rattle.record.specs.Writing.{IsStorable, AreStorable, IsBytes, Fits, wide_type, int_type, int_bytes, wide_bytes, serial_of, type_of, body_of, header_len, record_of};
 
 use crate::field::body_size;
-use crate::varint::{put_varint, varint_len};
+use crate::varint::{put_reserved, varint_len};
 use smallvec::SmallVec;
 use sqlval::{Fault, Field, R, Value};
 use std::alloc::{AllocError, Global};
 
+/// The smallest of the types 1 to 6 that holds an integer so many steps from 0 or from -1.
+#[inline(always)]
 #[tactic(auto, unfolding(crate::specs::Writing::wide_type))]
 fn type_by_steps(steps: u64) -> u64
     ensures value { result ≡ wide_type steps }
@@ -33,19 +35,22 @@ fn type_by_steps(steps: u64) -> u64
     }
 }
 
+/// The smallest type that holds an integer.
+#[inline(always)]
 fn type_of_int(n: i64) -> u64
     ensures { result ≡ int_type n }
 {
-    if n == 0 || n == 1 {
-        8 + n as u64
-    } else if n < 0 {
+    if n < 0 {
         type_by_steps((-1 - n) as u64)
-    } else {
+    } else if n > 1 {
         type_by_steps(n as u64)
+    } else {
+        8 + n as u64
     }
 }
 
 /// The smallest type that holds a value.
+#[inline(always)]
 fn serial_type(field: Field<'_>) -> u64
     requires { IsStorable (value_of field) }
     ensures { result ≡ serial_of (value_of field.entry) }
@@ -58,47 +63,82 @@ fn serial_type(field: Field<'_>) -> u64
     }
 }
 
-fn put_wide(out: &mut Vec<u8>, serial: u64, n: i64) -> Result<(), AllocError>
-    requires low { 1 ≤ serial }
-    requires high { serial ≤ 6 }
-    ensures { OnOk result (out.new.items ≡ out.old.items ++ wide_bytes serial n) }
+/// Writes bytes where there is room for them.
+#[inline(always)]
+fn put_bytes(out: &mut Vec<u8>, bytes: &[u8])
+    requires { length out.old.items + length bytes.now ≤ vec_capacity out.old }
+    ensures items { out.new.items ≡ out.old.items ++ bytes.now }
+    ensures capacity { vec_capacity out.new ≡ vec_capacity out.old }
 {
-    let size = body_size(serial) as usize;
-    let bytes = n.to_be_bytes();
-    out.extend_from_slice(&bytes[8 - size..])
-}
-
-fn put_int(out: &mut Vec<u8>, n: i64) -> Result<(), AllocError>
-    ensures { OnOk result (out.new.items ≡ out.old.items ++ int_bytes n) }
-{
-    if n == 0 || n == 1 {
-        Ok(())
-    } else if n < 0 {
-        put_wide(out, type_by_steps((-1 - n) as u64), n)
-    } else {
-        put_wide(out, type_by_steps(n as u64), n)
+    for byte in bytes {
+        out.push_reserved(*byte);
     }
 }
 
+/// Writes an integer at a type from 1 to 6 where there is room for it.
+#[inline(always)]
+fn put_wide(out: &mut Vec<u8>, serial: u64, n: i64)
+    requires low { 1 ≤ serial }
+    requires high { serial ≤ 6 }
+    requires room { length out.old.items + length (wide_bytes serial n) ≤ vec_capacity out.old }
+    ensures items { out.new.items ≡ out.old.items ++ wide_bytes serial n }
+    ensures capacity { vec_capacity out.new ≡ vec_capacity out.old }
+{
+    let bytes = n.to_be_bytes();
+    match serial {
+        1 => put_bytes(out, &bytes[7..]),
+        2 => put_bytes(out, &bytes[6..]),
+        3 => put_bytes(out, &bytes[5..]),
+        4 => put_bytes(out, &bytes[4..]),
+        5 => put_bytes(out, &bytes[2..]),
+        _ => put_bytes(out, &bytes),
+    }
+}
+
+/// Writes an integer's body where there is room for it.
+#[inline(always)]
+fn put_int(out: &mut Vec<u8>, n: i64)
+    requires { length out.old.items + length (int_bytes n) ≤ vec_capacity out.old }
+    ensures items { out.new.items ≡ out.old.items ++ int_bytes n }
+    ensures capacity { vec_capacity out.new ≡ vec_capacity out.old }
+{
+    if n < 0 {
+        put_wide(out, type_by_steps((-1 - n) as u64), n);
+    } else if n > 1 {
+        put_wide(out, type_by_steps(n as u64), n);
+    }
+}
+
+/// Writes a value's body where there is room for it.
+#[inline(always)]
 #[tactic(auto, unfolding(crate::specs::Writing::body_of))]
 fn put_body(out: &mut Vec<u8>, field: Field<'_>) -> Result<(), AllocError>
+    requires { length out.old.items + length (body_of (value_of field)) ≤ vec_capacity out.old }
     ensures ok { OnOk result (out.new.items ≡ out.old.items ++ body_of (value_of field.entry)) }
+    ensures capacity { vec_capacity out.old ≤ vec_capacity out.new }
     ensures fits { Fits (value_of field.entry) }
 {
     match field {
         Field::Null => Ok(()),
-        Field::Int(n) => put_int(out, n),
+        Field::Int(n) => {
+            put_int(out, n);
+            Ok(())
+        }
         Field::Text(text) => out.extend_from_slice(text.as_bytes()),
         Field::Blob(bytes) => out.extend_from_slice(bytes),
     }
 }
 
+/// Writes a value's type where there is room for it.
+#[inline(always)]
 #[tactic(auto, unfolding(crate::specs::Writing::type_of))]
 fn put_type(out: &mut Vec<u8>, field: Field<'_>) -> Result<(), AllocError>
-    requires { IsStorable (value_of field) }
-    ensures { OnOk result (out.new.items ≡ out.old.items ++ type_of (value_of field.entry)) }
+    requires storable { IsStorable (value_of field) }
+    requires room { length out.old.items + length (type_of (value_of field)) ≤ vec_capacity out.old }
+    ensures ok { OnOk result (out.new.items ≡ out.old.items ++ type_of (value_of field.entry)) }
+    ensures capacity { vec_capacity out.old ≤ vec_capacity out.new }
 {
-    put_varint(out, serial_type(field))
+    put_reserved(out, serial_type(field))
 }
 
 #[tactic(auto, unfolding(crate::specs::Writing::header_len))]
@@ -121,9 +161,12 @@ fn is_storable_value(value: &Value) -> bool
     }
 }
 
+/// Writes the types where there is room for them.
 fn put_types(out: &mut Vec<u8>, fields: &[Field<'_>]) -> Result<(), AllocError>
-    requires { All (λ field. IsStorable (value_of field)) fields.now }
-    ensures { OnOk result (out.new.items ≡ out.old.items ++ flat_map (λ field. type_of (value_of field)) fields.now) }
+    requires storable { All (λ field. IsStorable (value_of field)) fields.now }
+    requires room { length out.old.items + length (flat_map (λ field. type_of (value_of field)) fields.now) ≤ vec_capacity out.old }
+    ensures ok { OnOk result (out.new.items ≡ out.old.items ++ flat_map (λ field. type_of (value_of field)) fields.now) }
+    ensures capacity { vec_capacity out.old ≤ vec_capacity out.new }
 {
     for field in fields {
         put_type(out, *field)?;
@@ -131,7 +174,9 @@ fn put_types(out: &mut Vec<u8>, fields: &[Field<'_>]) -> Result<(), AllocError>
     Ok(())
 }
 
+/// Writes the bodies where there is room for them.
 fn put_bodies(out: &mut Vec<u8>, fields: &[Field<'_>]) -> Result<(), AllocError>
+    requires { length out.old.items + length (flat_map (λ field. body_of (value_of field)) fields.now) ≤ vec_capacity out.old }
     ensures ok { OnOk result (out.new.items ≡ out.old.items ++ flat_map (λ field. body_of (value_of field)) fields.now) }
     ensures fits { OnOk result (All (λ field. Fits (value_of field)) fields.now) }
 {
@@ -158,23 +203,6 @@ fn sizes(fields: &[Field<'_>]) -> (usize, usize)
         bodies += body_size(serial) as usize;
     }
     (types, bodies)
-}
-
-/// The record of a row, in the writer's spelling.
-#[tactic(auto, unfolding(crate::specs::Writing::record_of))]
-fn write(alloc: Global, fields: &[Field<'_>]) -> R<Vec<u8>>
-    requires { AreStorable (map value_of fields.now) }
-    ensures exact { IfOk result (λ bytes. bytes.items ≡ record_of (map value_of fields.now)) }
-    ensures fits { OnOk result (All Fits (map value_of fields.now)) }
-    ensures memory { IfErr result (λ fault. fault ≡ Fault.Memory) }
-{
-    let (types, bodies) = sizes(fields);
-    let header = header_size(types as u64);
-    let mut out = Vec::with_capacity(alloc, header as usize + bodies)?;
-    put_varint(&mut out, header)?;
-    put_types(&mut out, fields)?;
-    put_bodies(&mut out, fields)?;
-    Ok(out)
 }
 
 /// The values, without copies of their bytes.
@@ -206,7 +234,13 @@ pub fn encode_fields(alloc: Global, fields: &[Field<'_>]) -> R<Vec<u8>>
     ensures exact { IfOk result (λ bytes. bytes.items ≡ record_of (map value_of fields.now)) }
     ensures memory { IfErr result (λ fault. fault ≡ Fault.Memory) }
 {
-    write(alloc, fields)
+    let (types, bodies) = sizes(fields);
+    let header = header_size(types as u64);
+    let mut out = Vec::with_capacity(alloc, header as usize + bodies)?;
+    put_reserved(&mut out, header)?;
+    put_types(&mut out, fields)?;
+    put_bodies(&mut out, fields)?;
+    Ok(out)
 }
 
 /// The same of values.

@@ -37,6 +37,7 @@ refuses_on f.RowChangedBefore a k e = ap (λ r. r and k) e
 refuses_on f.ViewReadOnly a k e = ap (λ r. r and k) e
 refuses_on f.Failed a k e = ap (λ r. r and k) e
 refuses_on f.Blank a k e = ap (λ r. r and k) e
+refuses_on f.Journal a k e = ap (λ r. r and k) e
 
 -- it is when out of memory, or what the definition refuses too
 pub refused_so : {Y : Type 0} (fault : Fault) (given : Result Y Fault) → Refuses fault given → (fault ≡ f.Memory) ⊎ (given ≡ Err fault)
@@ -69,6 +70,7 @@ refused_so f.RowChangedBefore given e = inr e
 refused_so f.ViewReadOnly given e = inr e
 refused_so f.Failed given e = inr e
 refused_so f.Blank given e = inr e
+refused_so f.Journal given e = inr e
 
 regroup : {A : Type 0} (front : List A) (x : A) (rest : Result (List A) Fault) → with_front front (rest and λ xs. Ok (x ∷ xs)) ≡ with_front (front ++ x ∷ []) rest
 regroup {A} front x (Ok xs) = ap (λ (vs : List A). Ok vs) (simp append_assoc)

@@ -1,7 +1,7 @@
 -- Which refusals and faults end a transaction.
 use Rattle.std.proofs.Common.{◌≡◌, ◌⊎◌, inl, inr, refl, sym, ap, subst, ◌∙◌, ℕ, List, Bool, true, false, cond}
 use Rattle.std.proofs.lemmas.Bool.{false≢true}
-use Rattle.sqlval.specs.Refusals.{Refusal, Memory, Io, NotADatabase, Unsupported, Damaged, Full, Syntax, NoSuch, Exists, Ambiguous, Misuse, Busy, StaleSnapshot, NoTransaction, InTransaction, NoSavepoint, NotNull, Unique, Check, Raised, RaisedRollback, RealRefused, TypeRefused, RowidFull, RowidMismatch, TooLong, RowChangedBefore, ViewReadOnly, Failed, Blank, refusal_of}
+use Rattle.sqlval.specs.Refusals.{Refusal, Memory, Io, NotADatabase, Unsupported, Damaged, Full, Syntax, NoSuch, Exists, Ambiguous, Misuse, Busy, StaleSnapshot, NoTransaction, InTransaction, NoSavepoint, NotNull, Unique, Check, Raised, RaisedRollback, RealRefused, TypeRefused, RowidFull, RowidMismatch, TooLong, RowChangedBefore, ViewReadOnly, Failed, Blank, Journal, refusal_of}
 use Rattle.sqlval.specs.declared.fault.Fault.{Fault}
 use Rattle.sqlval.specs.declared.fault.Fault.TheVariants as fault
 use Rattle.sqlval.specs.declared.fault.RaisedText.{RaisedText}
@@ -61,6 +61,7 @@ either_way RowChangedBefore = inl (record { answer = refl; left = λ m c. refl }
 either_way ViewReadOnly = inl (record { answer = refl; left = λ m c. refl })
 either_way Failed = inl (record { answer = refl; left = λ m c. refl })
 either_way Blank = inl (record { answer = refl; left = λ m c. refl })
+either_way Journal = inl (record { answer = refl; left = λ m c. refl })
 either_way (RaisedRollback text) = inr (record { text = text; is = refl })
 
 -- what memory or room is short for ends nothing
@@ -134,6 +135,7 @@ fault_way fault.RowChangedBefore = inl (record { never = refl; plain = record { 
 fault_way fault.ViewReadOnly = inl (record { never = refl; plain = record { answer = refl; left = λ m c. refl } })
 fault_way fault.Failed = inl (record { never = refl; plain = record { answer = refl; left = λ m c. refl } })
 fault_way fault.Blank = inl (record { never = refl; plain = record { answer = refl; left = λ m c. refl } })
+fault_way fault.Journal = inl (record { never = refl; plain = record { answer = refl; left = λ m c. refl } })
 
 -- what ends a transaction is RAISE(ROLLBACK)
 abbrev pub ending_refusal : (f : Fault) → IsEndingFault f → IsEnding (refusal_of f)

@@ -24,7 +24,7 @@ use Rattle.session.proofs.StandingViews.{one_header}
 use Rattle.catalog.specs.Listed.{Listed}
 
 pub large : (n : ℕ) → IsPageSize n → 100 ≤ n
-large = by_size (λ (n : ℕ). 100 ≤ n) (omega arith) (omega arith) (omega arith) (omega arith) (omega arith) (omega arith) (omega arith)
+large = by_size (λ (n : ℕ). 100 ≤ n) (omega arith) (omega arith) (omega arith) (omega arith) (omega arith) (omega arith) (omega arith) (omega arith)
 
 -- a file that has page 1 begins with it
 pub first_bytes : (db : List ℕ) (page_size : ℕ) (page : List ℕ) → IsPageSize page_size → IsInFile db page_size 1 page → take 100 page ≡ take 100 db

@@ -21,7 +21,10 @@ size_is n h =
                 | inl e ↦ record { exponent = 14; low = omega arith; high = omega arith; power = e }
                 | inr g ↦ elim (cases_eq n 32768) [
                   | inl e ↦ record { exponent = 15; low = omega arith; high = omega arith; power = e }
-                  | inr i ↦ absurd (let none = rw (ne_eqb _ _ a, ne_eqb _ _ b, ne_eqb _ _ c, ne_eqb _ _ d, ne_eqb _ _ f, ne_eqb _ _ g, ne_eqb _ _ i) at h in cc)
+                  | inr i ↦ elim (cases_eq n 65536) [
+                    | inl e ↦ record { exponent = 16; low = omega arith; high = omega arith; power = e }
+                    | inr j ↦ absurd (let none = rw (ne_eqb _ _ a, ne_eqb _ _ b, ne_eqb _ _ c, ne_eqb _ _ d, ne_eqb _ _ f, ne_eqb _ _ g, ne_eqb _ _ i, ne_eqb _ _ j) at h in cc)
+                  ]
                 ]
               ]
             ]
@@ -30,7 +33,7 @@ size_is n h =
       ]
     ]
 
-powers : (j : ℕ) → j ≤ 6 → is_size (2 ^ (9 + j)) ≡ true
+powers : (j : ℕ) → j ≤ 7 → is_size (2 ^ (9 + j)) ≡ true
 unfolding is_size
 powers zero le = refl
 powers (suc zero) le = refl
@@ -39,26 +42,28 @@ powers (suc (suc (suc zero))) le = refl
 powers (suc (suc (suc (suc zero)))) le = refl
 powers (suc (suc (suc (suc (suc zero))))) le = refl
 powers (suc (suc (suc (suc (suc (suc zero)))))) le = refl
-powers (suc (suc (suc (suc (suc (suc (suc k))))))) le = absurd (omega arith)
+powers (suc (suc (suc (suc (suc (suc (suc zero))))))) le = refl
+powers (suc (suc (suc (suc (suc (suc (suc (suc k)))))))) le = absurd (omega arith)
 
 pub size_tested : (n : ℕ) → IsPageSize n → is_size n ≡ true
 size_tested n s =
     let same : 9 + (s.exponent - 9) ≡ s.exponent = omega (arith, s.low) in
     ap is_size (s.power ∙ ap (λ (k : ℕ). 2 ^ k) (sym same)) ∙ powers (s.exponent - 9) (omega (arith, s.high))
 
--- what holds of each of the seven sizes
+-- what holds of each of the eight sizes
 
-by_exponent : (P : ℕ → Type 0) → P 512 → P 1024 → P 2048 → P 4096 → P 8192 → P 16384 → P 32768 → (j : ℕ) → j ≤ 6 → P (2 ^ (9 + j))
-by_exponent P a b c d e f g zero le = a
-by_exponent P a b c d e f g (suc zero) le = b
-by_exponent P a b c d e f g (suc (suc zero)) le = c
-by_exponent P a b c d e f g (suc (suc (suc zero))) le = d
-by_exponent P a b c d e f g (suc (suc (suc (suc zero)))) le = e
-by_exponent P a b c d e f g (suc (suc (suc (suc (suc zero))))) le = f
-by_exponent P a b c d e f g (suc (suc (suc (suc (suc (suc zero)))))) le = g
-by_exponent P a b c d e f g (suc (suc (suc (suc (suc (suc (suc k))))))) le = absurd (omega arith)
+by_exponent : (P : ℕ → Type 0) → P 512 → P 1024 → P 2048 → P 4096 → P 8192 → P 16384 → P 32768 → P 65536 → (j : ℕ) → j ≤ 7 → P (2 ^ (9 + j))
+by_exponent P a b c d e f g h zero le = a
+by_exponent P a b c d e f g h (suc zero) le = b
+by_exponent P a b c d e f g h (suc (suc zero)) le = c
+by_exponent P a b c d e f g h (suc (suc (suc zero))) le = d
+by_exponent P a b c d e f g h (suc (suc (suc (suc zero)))) le = e
+by_exponent P a b c d e f g h (suc (suc (suc (suc (suc zero))))) le = f
+by_exponent P a b c d e f g h (suc (suc (suc (suc (suc (suc zero)))))) le = g
+by_exponent P a b c d e f g h (suc (suc (suc (suc (suc (suc (suc zero))))))) le = h
+by_exponent P a b c d e f g h (suc (suc (suc (suc (suc (suc (suc (suc k)))))))) le = absurd (omega arith)
 
-pub by_size : (P : ℕ → Type 0) → P 512 → P 1024 → P 2048 → P 4096 → P 8192 → P 16384 → P 32768 → (n : ℕ) → IsPageSize n → P n
-by_size P a b c d e f g n s =
+pub by_size : (P : ℕ → Type 0) → P 512 → P 1024 → P 2048 → P 4096 → P 8192 → P 16384 → P 32768 → P 65536 → (n : ℕ) → IsPageSize n → P n
+by_size P a b c d e f g h n s =
     let same : 9 + (s.exponent - 9) ≡ s.exponent = omega (arith, s.low) in
-    subst P (ap (λ (k : ℕ). 2 ^ k) same ∙ sym s.power) (by_exponent P a b c d e f g (s.exponent - 9) (omega (arith, s.high)))
+    subst P (ap (λ (k : ℕ). 2 ^ k) same ∙ sym s.power) (by_exponent P a b c d e f g h (s.exponent - 9) (omega (arith, s.high)))

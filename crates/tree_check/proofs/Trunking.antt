@@ -105,10 +105,10 @@ header_is bytes rest n next parts =
 same_number : (a b : ℕ) (bytes : List ℕ) → a < 2 ^ 32 → b < 2 ^ 32 → to_be_bytes w32 a ≡ bytes → bytes ≡ to_be_bytes w32 b → a ≡ b
 same_number a b bytes near also one other = one_number a b [] [] near also (ap (λ (l : List ℕ). l ++ []) (one ∙ other))
 
-few_near : (size n : ℕ) → size < 2 ^ 16 → n + 2 ≤ size / 4 → n < 2 ^ 32
+few_near : (size n : ℕ) → size ≤ 2 ^ 16 → n + 2 ≤ size / 4 → n < 2 ^ 32
 few_near size n small few = omega (arith, small, few)
 
-module _ (map : PageMap) (size page left : ℕ) (listed : Listed) (small : size < 2 ^ 16) (sized : length (page_at map page) ≡ size) (tells : TellsList (page_at map page) left listed) where
+module _ (map : PageMap) (size page left : ℕ) (listed : Listed) (small : size ≤ 2 ^ 16) (sized : length (page_at map page) ≡ size) (tells : TellsList (page_at map page) left listed) where
   -- what the page tells is one thing
   tells_one : (next : ℕ) (leaves : List ℕ) → IsTrunk map size (record { page = page; leaves = leaves }) next → (next ≡ listed.next) × (length leaves ≡ listed.len)
   tells_one next leaves is =
@@ -185,7 +185,7 @@ trunk_refused map size page left old new fault (Err e) is why = λ next leaves t
 
 -- ---- the list
 
-module _ (map : PageMap) (size page left next len : ℕ) (one : List ℕ) (is_one : IsTrunkOf map size page next len one) (small : size < 2 ^ 16) (some : 0 < left) (fewer : len < left) where
+module _ (map : PageMap) (size page left next len : ℕ) (one : List ℕ) (is_one : IsTrunkOf map size page next len one) (small : size ≤ 2 ^ 16) (some : 0 < left) (fewer : len < left) where
   list_apart : (trunks : List Trunk) → IsFreelist map size page left trunks → IsBoth (IsTrunkOf map size page next len) (IsFreelist map size next (left - len - 1)) (λ leaves. page ∷ leaves) pages_of (pages_of trunks)
   list_apart [] is = absurd (let count = is.count_is in omega (arith, count, some))
   list_apart (trunk ∷ trunks) is =
@@ -223,7 +223,7 @@ module _ (map : PageMap) (size page left next len : ℕ) (one : List ℕ) (is_on
       }
 
 -- what the trunk pages after the first decide
-pub trunk_then : (map : PageMap) (size page left : ℕ) (listed : Listed) (old mid : List Bool) → size < 2 ^ 16 → 0 < left → ChecksTrunk map size page left old mid (Ok listed) → (new : List Bool) (result : Result ⊤ Fault)
+pub trunk_then : (map : PageMap) (size page left : ℕ) (listed : Listed) (old mid : List Bool) → size ≤ 2 ^ 16 → 0 < left → ChecksTrunk map size page left old mid (Ok listed) → (new : List Bool) (result : Result ⊤ Fault)
     → Checks (IsFreelist map size listed.next (left - listed.len - 1)) pages_of mid new result → Checks (IsFreelist map size page left) pages_of old new result
 trunk_then map size page left listed old mid small some first new result rest =
     then_checks (IsTrunkOf map size page listed.next listed.len) (IsFreelist map size listed.next (left - listed.len - 1)) (IsFreelist map size page left) (λ leaves. page ∷ leaves) pages_of pages_of

@@ -27,16 +27,16 @@ use Rattle.tree_index.proofs.Shares.{other_or_none, not_there, start_after, besi
 -- ---- its bytes
 
 -- the sizes of pages
-pub large_size : (size : ℕ) → IsPageSize size → (512 ≤ size) × (size < 2 ^ 16)
+pub large_size : (size : ℕ) → IsPageSize size → (512 ≤ size) × (size ≤ 2 ^ 16)
 large_size size is =
     let low : 2 ^ 9 ≤ 2 ^ is.exponent = pow-le-pow_right {n = 2} (omega arith) is.low in
-    let high : 2 ^ is.exponent ≤ 2 ^ 15 = pow-le-pow_right {n = 2} (omega arith) is.high in
+    let high : 2 ^ is.exponent ≤ 2 ^ 16 = pow-le-pow_right {n = 2} (omega arith) is.high in
     let e = is.power in
     (omega (arith, e, low), omega (arith, e, high))
 
 -- no entries fit each page
 pub none_fit : (size : ℕ) → IsPageSize size → Fits size 0 0 []
-none_fit size is = (let large = large_size size is in record { addressed = omega (arith, large.1); room = omega (arith, large.0) })
+none_fit size is = (let large = large_size size is in record { addressed = omega (arith, large.1); some = tt; room = omega (arith, large.0) })
 
 pub empty_page : (size : ℕ) (page : List ℕ) → IsTreePage 10 page 0 [] [] → length page ≡ size → IsEmptyPage size page
 empty_page size page is sized = record { node = record { cells = []; page_is = is; say = tt }; sized = sized }

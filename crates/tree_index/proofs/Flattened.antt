@@ -18,6 +18,7 @@ use Rattle.tree_page.specs.Cells.{Pairwise, IsTreePage}
 use Rattle.tree_page.specs.Node.{Local, Between, IsNode, IsBetweenCell}
 use Rattle.tree_page.specs.declared.items.Kind.TheVariants.{IndexInterior}
 use Rattle.tree_page.proofs.HeaderLemmas.{same_length}
+use Rattle.tree_pack.proofs.SmallLemmas.{say_some}
 use Rattle.tree_pack.specs.Building.{Fits}
 use Rattle.tree_store.specs.Saying.{Says}
 use Rattle.tree_store.specs.Sides.{Each, children}
@@ -156,7 +157,7 @@ module _ (old : PageMap) (size depth root : ℕ) (entries : List Entry) (used fr
   cells_fit : length (cells_of fan) ≤ 3 → Fits size (start_of root) 4 (cells_of fan)
   cells_fit few =
       let sizes = large_size size is.sized in
-      record { addressed = sizes.1; room = (let start = start_after root far in let small = few_fit size (cells_of fan) is.said sizes.0 is.fan_is.cells few in omega (arith, start, small)) }
+      record { addressed = sizes.1; some = say_some size (cells_of fan) (Between is.said (top depth is.last)) (is.fan_is.cells, is.fan_is.near); room = (let start = start_after root far in let small = few_fit size (cells_of fan) is.said sizes.0 is.fan_is.cells few in omega (arith, start, small)) }
 
   raised_built : (new : PageMap) (levels : ℕ) → IsRaised old new size root IndexInterior free fan.last (cells_of fan) → IsBuilt old new size root (depth + suc levels) entries used free
   raised_built new levels r =

@@ -71,7 +71,7 @@ pub at_most_three : (room : ℕ) (rises : Bool) (sizes counts : List ℕ) → Is
 at_most_three room rises sizes counts cut small = at_most 2 room rises sizes counts cut (omega (arith, small))
 
 -- pages of the format's sizes are usual
-pub usual : (page : List ℕ) (size : ℕ) → (512 ≤ size) × (size < 2 ^ 16) → length page ≡ size → IsUsual page 0
+pub usual : (page : List ℕ) (size : ℕ) → (512 ≤ size) × (size ≤ 2 ^ 16) → length page ≡ size → IsUsual page 0
 usual page size sizes long = record { least = (let big = sizes.0 in omega (arith, big, long)); addressed = (let small = sizes.1 in omega (arith, small, long)); near = omega arith }
 
 -- ---- what a cell holds of a payload

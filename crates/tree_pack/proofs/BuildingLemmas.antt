@@ -1,19 +1,32 @@
 -- What is written is a page of the cells.
-use Rattle.std.proofs.Common.{◌≡◌, ◌⊎◌, inl, inr, ℕ, ◌+◌, ◌-◌, ◌*◌, ◌^◌, ◌<◌, ◌≤◌, List, [], ◌∷◌, ◌++◌, length, map, reverse, replicate, refl, sym, ap, ◌∙◌, append_assoc, arith}
+use Rattle.std.proofs.Common.{◌≡◌, ◌⊎◌, inl, inr, ℕ, zero, suc, ◌+◌, ◌-◌, ◌*◌, ◌^◌, ◌<◌, ◌≤◌, List, [], ◌∷◌, ◌++◌, length, map, take, drop, reverse, replicate, refl, sym, ap, ◌∙◌, append_assoc, arith}
 use Rattle.std.specs.List.{AllByRecursion, flat_map}
-use Rattle.std.specs.Int.{w16, to_be_bytes}
 use Rattle.std.proofs.lemmas.List.{append-nil, reverse-append, length-append, length-replicate}
 use Rattle.std.proofs.lemmas.Grind.{flat_map-append}
 use Rattle.tree_page.specs.Cells.{Span, pointer, Pairwise, IsAt, IsApart, AreApart, page_header, front, IsTreePage}
 use Rattle.tree_page.specs.Reading.{type_of}
 use Rattle.tree_page.specs.declared.items.Kind.{Kind}
 use Rattle.tree_pack.specs.Parts.{total}
-use Rattle.tree_pack.specs.Building.{Fits, cell_room, spans_below, content_of, page_of}
+use Rattle.tree_pack.specs.Building.{Fits, cell_room, spans_below, content_of, content_bytes, page_of}
 
 -- the room of cells is that of their bytes and two bytes for each
 pub room_is : (cells : List (List ℕ)) → total (map cell_room cells) ≡ total (map length cells) + 2 * length cells
 room_is [] = refl
 room_is (cell ∷ cells) = omega (arith, room_is cells)
+
+-- each has a byte
+abbrev pub AreSome : List (List ℕ) → Type 0
+AreSome cells = AllByRecursion (λ (cell : List ℕ). 0 < length cell) cells
+
+pub some_take : (n : ℕ) (cells : List (List ℕ)) → AreSome cells → AreSome (take n cells)
+some_take zero cells some = tt
+some_take (suc n) [] some = tt
+some_take (suc n) (cell ∷ cells) some = (some.0, some_take n cells some.1)
+
+pub some_drop : (n : ℕ) (cells : List (List ℕ)) → AreSome cells → AreSome (drop n cells)
+some_drop zero cells some = some
+some_drop (suc n) [] some = tt
+some_drop (suc n) (cell ∷ cells) some = some_drop n cells some.1
 
 -- the cells from the last to the first
 abbrev texts : List (List ℕ) → List ℕ
@@ -33,14 +46,14 @@ length-pointers : (end : ℕ) (cells : List (List ℕ)) → length (flat_map poi
 length-pointers end [] = refl
 length-pointers end (cell ∷ cells) = omega (arith, length-pointers (end - length cell) cells)
 
-header_len : (kind count content : ℕ) → length (page_header kind (0 ∷ 0 ∷ []) count (to_be_bytes w16 content) 0) ≡ 8
+header_len : (kind count content : ℕ) → length (page_header kind (0 ∷ 0 ∷ []) count (content_bytes content) 0) ≡ 8
 header_len kind count content = refl
 
 -- each cell stands where its span says
-cells_built : (page base after : List ℕ) (end : ℕ) (cells : List (List ℕ)) → page ≡ base ++ (texts cells ++ after) → length base + total (map length cells) ≡ end → end < 2 ^ 16
+cells_built : (page base after : List ℕ) (end : ℕ) (cells : List (List ℕ)) → page ≡ base ++ (texts cells ++ after) → length base + total (map length cells) ≡ end → end ≤ 2 ^ 16 → AreSome cells
     → Pairwise (IsAt page) (spans_below end cells) cells
-cells_built page base after end [] parts sum near = tt
-cells_built page base after end (cell ∷ cells) parts sum near =
+cells_built page base after end [] parts sum near some = tt
+cells_built page base after end (cell ∷ cells) parts sum near some =
     let here : page ≡ base ++ (texts cells ++ (cell ++ after)) =
     parts ∙ ap (λ (x : List ℕ). base ++ (x ++ after)) (texts_first cell cells) ∙ ap (λ (x : List ℕ). base ++ x) (append_assoc (texts cells) cell after) in
     let len = length-append base (texts cells) in
@@ -51,9 +64,9 @@ cells_built page base after end (cell ∷ cells) parts sum near =
         parts = here ∙ sym (append_assoc base (texts cells) (cell ++ after));
         from_is = omega arith;
         to_is = omega arith;
-        near = omega arith;
+        near = omega (arith, near, some.0);
       },
-      cells_built page base (cell ++ after) (end - length cell) cells here (omega arith) (omega arith),
+      cells_built page base (cell ++ after) (end - length cell) cells here (omega arith) (omega (arith, near)) some.1,
     )
 
 -- each is below `floor` or from `end` on
@@ -92,7 +105,7 @@ unfolding page_of
 page_built before page_size kind right cells fits =
     let content = content_of page_size cells in
     let gap = content - (length before + 8 + length right + 2 * length cells) in
-    let header = page_header (type_of kind) (0 ∷ 0 ∷ []) (length cells) (to_be_bytes w16 content) 0 in
+    let header = page_header (type_of kind) (0 ∷ 0 ∷ []) (length cells) (content_bytes content) 0 in
     let pointers = flat_map pointer (spans_below page_size cells) in
     let zeros : List ℕ = replicate gap 0 in
     let page = before ++ (header ++ (right ++ (pointers ++ (zeros ++ texts cells)))) in
@@ -118,7 +131,7 @@ page_built before page_size kind right cells fits =
       record {
         before = before;
         freeblock = 0 ∷ 0 ∷ [];
-        content = to_be_bytes w16 content;
+        content = content_bytes content;
         fragments = 0;
         spans = spans_below page_size cells;
         rest = zeros ++ texts cells;
@@ -127,7 +140,7 @@ page_built before page_size kind right cells fits =
         freeblock_is = refl;
         content_is = refl;
         few = omega arith;
-        cells_are = cells_built page base [] page_size cells split (omega arith) near;
+        cells_are = cells_built page base [] page_size cells split (omega arith) near fits.some;
         apart = apart_built floor page_size (front (length before) (length right) (length cells) ∷ []) cells (omega arith) (inl at_floor, tt);
       },
       len,
@@ -135,11 +148,11 @@ page_built before page_size kind right cells fits =
 
 -- the parts of a page as they are written one after the other
 pub page_parts : (before right out0 out1 out2 out3 out4 out5 out6 : List ℕ) (page_size content written : ℕ) (kind : Kind) (cells : List (List ℕ)) → Fits page_size (length before) (length right) cells → content ≡ content_of page_size cells → out0 ≡ []
-    → out1 ≡ out0 ++ before → out2 ≡ out1 ++ page_header (type_of kind) (0 ∷ 0 ∷ []) (length cells) (to_be_bytes w16 content) 0 → out3 ≡ out2 ++ right → out4 ≡ out3 ++ flat_map pointer (spans_below page_size cells)
+    → out1 ≡ out0 ++ before → out2 ≡ out1 ++ page_header (type_of kind) (0 ∷ 0 ∷ []) (length cells) (content_bytes content) 0 → out3 ≡ out2 ++ right → out4 ≡ out3 ++ flat_map pointer (spans_below page_size cells)
     → written ≡ length out4 → out5 ≡ out4 ++ replicate (content - written) 0 → out6 ≡ out5 ++ texts cells → out6 ≡ page_of before page_size kind right cells
 unfolding page_of
 page_parts before right out0 out1 out2 out3 out4 out5 out6 page_size content written kind cells fits c e0 e1 e2 e3 e4 w e5 e6 =
-    let header = page_header (type_of kind) (0 ∷ 0 ∷ []) (length cells) (to_be_bytes w16 content) 0 in
+    let header = page_header (type_of kind) (0 ∷ 0 ∷ []) (length cells) (content_bytes content) 0 in
     let pointers = flat_map pointer (spans_below page_size cells) in
     let floor = length before + 8 + length right + 2 * length cells in
     let zeros : List ℕ = replicate (content - floor) 0 in
@@ -153,4 +166,4 @@ page_parts before right out0 out1 out2 out3 out4 out5 out6 page_size content wri
     let five : out5 ≡ ((before ++ (header ++ right)) ++ pointers) ++ zeros =
     e5 ∙ ap (λ (x : List ℕ). x ++ replicate (content - written) 0) four ∙ ap (λ (n : ℕ). ((before ++ (header ++ right)) ++ pointers) ++ replicate (content - n) 0) (w ∙ len) in
     let six : out6 ≡ before ++ (header ++ (right ++ (pointers ++ (zeros ++ texts cells)))) = e6 ∙ ap (λ (x : List ℕ). x ++ texts cells) five ∙ simp append_assoc in
-    six ∙ ap (λ (n : ℕ). before ++ (page_header (type_of kind) (0 ∷ 0 ∷ []) (length cells) (to_be_bytes w16 n) 0 ++ (right ++ (pointers ++ (replicate (n - floor) 0 ++ texts cells))))) c
+    six ∙ ap (λ (n : ℕ). before ++ (page_header (type_of kind) (0 ∷ 0 ∷ []) (length cells) (content_bytes n) 0 ++ (right ++ (pointers ++ (replicate (n - floor) 0 ++ texts cells))))) c

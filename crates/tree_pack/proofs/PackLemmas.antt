@@ -54,7 +54,7 @@ packs_several front kind n rises right (count ∷ counts) cells node packed can 
           (several_say kind n (n - length front - 8 - right_room kind) rises right (count ∷ counts) cells node near (omega (arith, header)) is fit cut);
       sized =
           subst (λ (pages : List (List ℕ)). AllByRecursion (λ (image : List ℕ). length image ≡ n) pages) (sym pages)
-          (pages_sized kind n right (count ∷ counts) cells near (omega (arith, header)) (omega (arith, len)) fit.fit);
+          (pages_sized kind n right (count ∷ counts) cells near (omega (arith, header)) (omega (arith, len)) can.some fit.fit);
       front_is = λ alone. absurd (some alone);
       divide =
           subst (λ (ends : List (List ℕ)). Divide n ends (dividers_of (count ∷ counts) node)) (sym ends)

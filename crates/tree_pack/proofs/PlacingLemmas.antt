@@ -245,9 +245,9 @@ new_parts kind page start right cells is middle low place cell le middle_is room
 
 -- the new page has the cells of the old one, and this one
 page_placed : (kind : ℕ) (page : List ℕ) (start : ℕ) (right : List ℕ) (cells : List (List ℕ)) (is : IsTreePage kind page start right cells) (place low : ℕ) (cell new : List ℕ)
-    → NewParts kind page start right cells is place (low - length cell) cell (drop low page) new → place ≤ length cells → start + 8 + length right + 2 * length cells + 2 + length cell ≤ low → low ≤ length page → low < 2 ^ 16
+    → NewParts kind page start right cells is place (low - length cell) cell (drop low page) new → place ≤ length cells → start + 8 + length right + 2 * length cells + 2 + length cell ≤ low → low ≤ length page → low ≤ 2 ^ 16 → 0 < length cell
     → length cells + 1 < 2 ^ 16 → AllByRecursion (λ span. low ≤ span.from) is.spans → IsTreePage kind new start right (insert cells place cell) × (length new ≡ length page) × (take start new ≡ take start page)
-page_placed kind page start right cells is place low cell new n le room within near few behind =
+page_placed kind page start right cells is place low cell new n le room within near some few behind =
     let at = low - length cell in
     let span : Span = record { from = at; to = at + length cell } in
     let tail = drop low page in
@@ -262,7 +262,7 @@ page_placed kind page start right cells is place low cell new n le room within n
       parts = n.ends;
       from_is = sym n.base_size;
       to_is = ap (λ (m : ℕ). m + length cell) (sym n.base_size);
-      near = omega (arith, near);
+      near = omega (arith, near, some);
     } in (
       record {
         before = is.before;
@@ -288,15 +288,15 @@ page_placed kind page start right cells is place low cell new n le room within n
 
 -- the new page says what the cells say
 pub is_placed : (page : List ℕ) (start : ℕ) (old new : Node) (is : IsNode page start old) (middle low place count : ℕ) (cell written : List ℕ) → place ≤ length is.cells → middle ≡ start + 8 + length (right_of old) + 2 * place
-    → count ≡ length is.cells + 1 → start + 8 + length (right_of old) + 2 * length is.cells + 2 + length cell ≤ low → low ≤ length page → low < 2 ^ 16 → length is.cells + 1 < 2 ^ 16
+    → count ≡ length is.cells + 1 → start + 8 + length (right_of old) + 2 * length is.cells + 2 + length cell ≤ low → low ≤ length page → low ≤ 2 ^ 16 → 0 < length cell → length is.cells + 1 < 2 ^ 16
     → AllByRecursion (λ span. low ≤ span.from) is.page_is.spans → code_of new ≡ code_of old → right_of new ≡ right_of old → Say (length page) (insert is.cells place cell) new → written ≡ placed_of page start middle count low cell
     → IsPlaced page start (insert is.cells place cell) new written
-is_placed page start old new is middle low place count cell written le middle_is count_is room within near few behind same last say e =
+is_placed page start old new is middle low place count cell written le middle_is count_is room within near some few behind same last say e =
     let p = is.page_is in
     let cells = insert is.cells place cell in
     let n = new_parts (code_of old) page start (right_of old) is.cells p middle low place cell le middle_is room within in
     let whole : written ≡ placed_of page start middle (length is.cells + 1) low cell = e ∙ ap (λ (m : ℕ). placed_of page start middle m low cell) count_is in
-    let placed = page_placed (code_of old) page start (right_of old) is.cells p place low cell (placed_of page start middle (length is.cells + 1) low cell) n le room within near few behind in
+    let placed = page_placed (code_of old) page start (right_of old) is.cells p place low cell (placed_of page start middle (length is.cells + 1) low cell) n le room within near some few behind in
     let long : length written ≡ length page = ap length whole ∙ placed.1 in
     let of_old : IsTreePage (code_of old) written start (right_of old) cells = subst (λ (bytes : List ℕ). IsTreePage (code_of old) bytes start (right_of old) cells) (sym whole) placed.0 in
     let of_new : IsTreePage (code_of new) written start (right_of new) cells =

@@ -414,7 +414,7 @@ put_again page mid_page start place cell old mid new is placed usual within mid_
     (places mid new placed.is (omega (arith, addressed, placed.long)) usual.near (omega (arith, ap length placed.cells_are, fewer_cells, within)) (same ∙ sym mid_code) (last ∙ sym mid_right)
     (subst (λ (n : ℕ). Say n (insert (placed.is).cells place cell) new) (sym placed.long) (subst (λ (cells : List (List ℕ)). Say (length page) cells new) (sym cells_are) say)))
   where
-    addressed : length page < 2 ^ 16
+    addressed : length page ≤ 2 ^ 16
     addressed = usual.addressed
 
     fewer_cells : length (without place is.cells) + 1 ≡ length is.cells

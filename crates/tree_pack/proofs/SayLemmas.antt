@@ -13,7 +13,8 @@ use Rattle.tree_pack.specs.Lists.{parts_of, entry_parts, with_key, sides_of, all
 use Rattle.tree_pack.specs.Building.{Fits, cell_room, right_room, page_of}
 use Rattle.tree_pack.specs.Packing.{up_of, AreOf, nodes_of}
 use Rattle.tree_pack.specs.Spreading.{first_cell, cut_pages, pages_of, PartsFit}
-use Rattle.tree_pack.proofs.BuildingLemmas.{page_built}
+use Rattle.tree_pack.proofs.BuildingLemmas.{AreSome, some_take, some_drop, page_built}
+use Rattle.tree_pack.proofs.SmallLemmas.{say_some}
 use Rattle.tree_pack.proofs.Joins.{LeavesOne}
 use Rattle.tree_pack.proofs.FillingLemmas.{cut_leaves_one, cut_entries}
 
@@ -109,31 +110,31 @@ abbrev PartFits : Kind → ℕ → List (List ℕ) → Type 0
 PartFits kind n part = total (map cell_room part) ≤ n - 8 - right_room kind
 
 -- where the cells are cut, each page says its part
-pub several_say : (kind : Kind) (n room : ℕ) (rises : Bool) (right counts : List ℕ) (cells : List (List ℕ)) (node : Node) → n < 2 ^ 16 → 8 + right_room kind ≤ n → AreOf kind n right cells node → PartsFit kind n counts cells
+pub several_say : (kind : Kind) (n room : ℕ) (rises : Bool) (right counts : List ℕ) (cells : List (List ℕ)) (node : Node) → n ≤ 2 ^ 16 → 8 + right_room kind ≤ n → AreOf kind n right cells node → PartsFit kind n counts cells
     → IsCut (up_of kind) room rises (map cell_room cells) counts → Pairwise (SaysAt 0) (pages_of kind n right counts cells) (nodes_of counts node)
 several_say TableLeaf n room rises right counts cells (Rows rows) near header is fit cut =
     subst (λ (xs : List ℕ). Pairwise (SaysAt 0) (pages_of TableLeaf n xs counts cells) (nodes_of counts (Rows rows))) is.right_is
     (leaves_said (IsRowCell n) (λ part. Rows part) (λ right part. page_of [] n TableLeaf right part) (PartFits TableLeaf n)
-    (λ part items f h. node_built [] n TableLeaf [] part (Rows items) (record { addressed = near; room = omega (arith, header, f) }) refl refl h)
+    (λ part items f h. node_built [] n TableLeaf [] part (Rows items) (record { addressed = near; some = say_some n part (Rows items) h; room = omega (arith, header, f) }) refl refl h)
     0 counts cells rows fit.fit is.say)
 several_say TableInterior n room rises right counts cells (Keys kids last) near header is fit cut =
     let same : length (map cell_room cells) ≡ length kids = length-map cells cell_room ∙ pairwise_length IsKeyCell cells kids is.say.0 in
     subst (λ (xs : List ℕ). Pairwise (SaysAt 0) (pages_of TableInterior n xs counts cells) (nodes_of counts (Keys kids last))) is.right_is
     (sides_said IsKeyCell (λ items child. Keys items child) (λ right part. page_of [] n TableInterior right part) (PartFits TableInterior n)
-    (λ part items child f h lt. node_built [] n TableInterior (to_be_bytes w32 child) part (Keys items child) (record { addressed = near; room = omega (arith, header, f) }) refl refl (h, lt))
+    (λ part items child f h lt. node_built [] n TableInterior (to_be_bytes w32 child) part (Keys items child) (record { addressed = near; some = say_some n part (Keys items child) (h, lt); room = omega (arith, header, f) }) refl refl (h, lt))
     key_head counts cells kids last (cut_leaves_one room rises (map cell_room cells) counts kids same cut) fit.fit is.say.0 is.say.1)
 several_say IndexLeaf n room rises right counts cells (Entries entries) near header is fit cut =
     let same : length (map cell_room cells) ≡ length entries = length-map cells cell_room ∙ pairwise_length (IsEntryCell n) cells entries is.say in
     subst (λ (xs : List ℕ). Pairwise (SaysAt 0) (pages_of IndexLeaf n xs counts cells) (nodes_of counts (Entries entries))) is.right_is
     (subst (λ (parts : List (List Local)). Pairwise (SaysAt 0) (pages_of IndexLeaf n [] counts cells) (map (λ part. Entries part) parts)) (sym (cut_entries room rises (map cell_room cells) counts entries same cut))
     (leaves_said (IsEntryCell n) (λ part. Entries part) (λ right part. page_of [] n IndexLeaf right part) (PartFits IndexLeaf n)
-    (λ part items f h. node_built [] n IndexLeaf [] part (Entries items) (record { addressed = near; room = omega (arith, header, f) }) refl refl h)
+    (λ part items f h. node_built [] n IndexLeaf [] part (Entries items) (record { addressed = near; some = say_some n part (Entries items) h; room = omega (arith, header, f) }) refl refl h)
     1 counts cells entries fit.fit is.say))
 several_say IndexInterior n room rises right counts cells (Between kids last) near header is fit cut =
     let same : length (map cell_room cells) ≡ length kids = length-map cells cell_room ∙ pairwise_length (IsBetweenCell n) cells kids is.say.0 in
     subst (λ (xs : List ℕ). Pairwise (SaysAt 0) (pages_of IndexInterior n xs counts cells) (nodes_of counts (Between kids last))) is.right_is
     (sides_said (IsBetweenCell n) (λ items child. Between items child) (λ right part. page_of [] n IndexInterior right part) (PartFits IndexInterior n)
-    (λ part items child f h lt. node_built [] n IndexInterior (to_be_bytes w32 child) part (Between items child) (record { addressed = near; room = omega (arith, header, f) }) refl refl (h, lt))
+    (λ part items child f h lt. node_built [] n IndexInterior (to_be_bytes w32 child) part (Between items child) (record { addressed = near; some = say_some n part (Between items child) (h, lt); room = omega (arith, header, f) }) refl refl (h, lt))
     (between_head n) counts cells kids last (cut_leaves_one room rises (map cell_room cells) counts kids same cut) fit.fit is.say.0 is.say.1)
 several_say kind n room rises right counts cells node near header is fit cut = let clash = is.kind_is in absurd (omega (arith, clash))
 
@@ -146,12 +147,12 @@ one_says front kind n right cells (Entries entries) fits is = (node_built front 
 one_says front kind n right cells (Between kids last) fits is = (node_built front n kind right cells (Between kids last) fits is.kind_is is.right_is is.say, tt)
 
 -- each page is of the page's size
-pub pages_sized : (kind : Kind) (n : ℕ) (right counts : List ℕ) (cells : List (List ℕ)) → n < 2 ^ 16 → 8 + right_room kind ≤ n → length right ≤ right_room kind
+pub pages_sized : (kind : Kind) (n : ℕ) (right counts : List ℕ) (cells : List (List ℕ)) → n ≤ 2 ^ 16 → 8 + right_room kind ≤ n → length right ≤ right_room kind → AreSome cells
     → AllByRecursion (PartFits kind n) (parts_of (up_of kind) counts cells) → AllByRecursion (λ (image : List ℕ). length image ≡ n) (pages_of kind n right counts cells)
-pages_sized kind n right [] cells near header le fit = let f = fit.0 in ((page_built [] n kind right cells (record { addressed = near; room = omega (arith, header, f, le) })).1, tt)
-pages_sized kind n right (count ∷ counts) cells near header le fit =
+pages_sized kind n right [] cells near header le some fit = let f = fit.0 in ((page_built [] n kind right cells (record { addressed = near; some = some; room = omega (arith, header, f, le) })).1, tt)
+pages_sized kind n right (count ∷ counts) cells near header le some fit =
     let f = fit.0 in
     let child = take (right_room kind) (first_cell (drop count cells)) in (
-      (page_built [] n kind child (take count cells) (record { addressed = near; room = omega (arith, header, f, length-take (right_room kind) (first_cell (drop count cells))) })).1,
-      pages_sized kind n right counts (drop (count + up_of kind) cells) near header le fit.1,
+      (page_built [] n kind child (take count cells) (record { addressed = near; some = some_take count cells some; room = omega (arith, header, f, length-take (right_room kind) (first_cell (drop count cells))) })).1,
+      pages_sized kind n right counts (drop (count + up_of kind) cells) near header le (some_drop (count + up_of kind) cells some) fit.1,
     )

@@ -6,12 +6,13 @@ use Rattle.std.proofs.lemmas.Bool.{leb-true}
 use Rattle.std.proofs.lemmas.List.{length-append, length-map}
 use Rattle.record.specs.Varint.{IsVarint, Ends, marked, base128}
 use Rattle.tree_page.specs.Cells.{Pairwise}
-use Rattle.tree_page.specs.Node.{Local, Node, Rows, Keys, Entries, Between, IsRowCell, IsKeyCell, IsEntryCell, IsBetweenCell}
+use Rattle.tree_page.specs.Node.{Local, Node, Rows, Keys, Entries, Between, IsRowCell, IsKeyCell, IsEntryCell, IsBetweenCell, Say}
 use Rattle.tree_page.specs.Payload.{table_most, index_most, least, fitted, held_size}
 use Rattle.tree_page.specs.declared.items.Kind.{Kind}
 use Rattle.tree_page.specs.declared.items.Kind.TheVariants.{TableLeaf, TableInterior, IndexLeaf, IndexInterior}
 use Rattle.tree_pack.specs.Building.{right_room}
 use Rattle.tree_pack.specs.Packing.{IsSmall, CanPack, AreOf}
+use Rattle.tree_pack.proofs.BuildingLemmas.{AreSome}
 
 -- a varint of any spelling has at most nine bytes
 pub varint_len : (bytes : List ℕ) (n : ℕ) → IsVarint bytes n → length bytes ≤ 9
@@ -83,6 +84,31 @@ all_small IndexLeaf n right cells (Entries entries) big is = all_first (IsEntryC
 all_small IndexInterior n right cells (Between kids last) big is = all_first (IsBetweenCell n) (IsSmall IndexInterior n) (λ cell kid h. between_small n cell kid big h) cells kids is.say.0
 all_small kind n right cells node big is = let clash = is.kind_is in absurd (omega (arith, clash))
 
+-- ---- each cell has a byte
+
+-- a varint has a byte
+varint_some : (bytes : List ℕ) (n : ℕ) → IsVarint bytes n → 0 < length bytes
+varint_some bytes n is = omega (arith, ap length is.spelled, length-append (marked is.high) (is.last ∷ []))
+
+row_some : (n : ℕ) (cell : List ℕ) (row : ℤ × Local) → IsRowCell n cell row → 0 < length cell
+row_some n cell row is = omega (arith, ap length is.parts, length-append is.size (is.rowid ++ row.1.bytes), varint_some is.size row.1.size is.size_is)
+
+key_some : (cell : List ℕ) (kid : ℕ × ℤ) → IsKeyCell cell kid → 0 < length cell
+key_some cell kid is = omega (arith, ap length is.parts, length-append (to_be_bytes w32 kid.0) is.key, varint_some is.key is.number is.key_is)
+
+entry_some : (n : ℕ) (cell : List ℕ) (entry : Local) → IsEntryCell n cell entry → 0 < length cell
+entry_some n cell entry is = omega (arith, ap length is.parts, length-append is.size entry.bytes, varint_some is.size entry.size is.size_is)
+
+between_some : (n : ℕ) (cell : List ℕ) (kid : ℕ × Local) → IsBetweenCell n cell kid → 0 < length cell
+between_some n cell kid is = omega (arith, ap length is.parts, length-append (to_be_bytes w32 kid.0) is.rest, entry_some n is.rest kid.1 is.entry)
+
+-- what says something has a byte in each cell
+pub say_some : (n : ℕ) (cells : List (List ℕ)) (node : Node) → Say n cells node → AreSome cells
+say_some n cells (Rows rows) say = all_first (IsRowCell n) (λ (cell : List ℕ). 0 < length cell) (row_some n) cells rows say
+say_some n cells (Keys kids last) say = all_first IsKeyCell (λ (cell : List ℕ). 0 < length cell) key_some cells kids say.0
+say_some n cells (Entries entries) say = all_first (IsEntryCell n) (λ (cell : List ℕ). 0 < length cell) (entry_some n) cells entries say
+say_some n cells (Between kids last) say = all_first (IsBetweenCell n) (λ (cell : List ℕ). 0 < length cell) (between_some n) cells kids say.0
+
 right_le : (kind : Kind) → right_room kind ≤ 4
 right_le TableLeaf = omega arith
 right_le TableInterior = omega arith
@@ -90,6 +116,6 @@ right_le IndexLeaf = omega arith
 right_le IndexInterior = omega arith
 
 -- the cells of a node can be packed
-pub node_packs : (kind : Kind) (n start : ℕ) (right : List ℕ) (cells : List (List ℕ)) (node : Node) → 512 ≤ n → n < 2 ^ 16 → start ≤ 100 → AreOf kind n right cells node → CanPack n start kind cells
+pub node_packs : (kind : Kind) (n start : ℕ) (right : List ℕ) (cells : List (List ℕ)) (node : Node) → 512 ≤ n → n ≤ 2 ^ 16 → start ≤ 100 → AreOf kind n right cells node → CanPack n start kind cells
 node_packs kind n start right cells node big near first is =
-    record { addressed = near; header = omega (arith, big, first, right_le kind); small = all_small kind n right cells node big is }
+    record { addressed = near; header = omega (arith, big, first, right_le kind); some = say_some n cells node is.say; small = all_small kind n right cells node big is }

@@ -186,7 +186,7 @@ packing_of result n front before kind of right last rises behind cells all f k r
     (subst (λ (x : List (List ℕ)). IsPacking result n front kind right rises x) c h))))
 
 -- on pages of the format's sizes the refusal is that of memory
-pub packs_or_memory : (result : Result Packed Fault) (n : ℕ) (front : List ℕ) (kind : Kind) (right : List ℕ) (rises : Bool) (cells : List (List ℕ)) (node : Node) → 512 ≤ n → n < 2 ^ 16 → length front ≤ 100 → AreOf kind n right cells node
+pub packs_or_memory : (result : Result Packed Fault) (n : ℕ) (front : List ℕ) (kind : Kind) (right : List ℕ) (rises : Bool) (cells : List (List ℕ)) (node : Node) → 512 ≤ n → n ≤ 2 ^ 16 → length front ≤ 100 → AreOf kind n right cells node
     → IsPacking result n front kind right rises cells → MatchResult result (Packs kind n front rises cells node) IsMemory
 packs_or_memory (Ok packed) n front kind right rises cells node big near first is h = (h node is).0
 packs_or_memory (Err fault) n front kind right rises cells node big near first is h = (h node is).1 (node_packs kind n (length front) right cells node big near first is)

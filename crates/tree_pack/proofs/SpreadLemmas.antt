@@ -11,6 +11,7 @@ use Rattle.tree_pack.specs.Rows.{LieWithin}
 use Rattle.tree_pack.specs.Building.{Fits, cell_room, right_room, page_of}
 use Rattle.tree_pack.specs.Packing.{up_of, IsSmall, CanPack}
 use Rattle.tree_pack.specs.Spreading.{first_cell, pages_of, divider_of, dividing, PartsFit}
+use Rattle.tree_pack.proofs.BuildingLemmas.{some_take, some_drop}
 use Rattle.tree_pack.proofs.FillingLemmas.{AreSmall, of_cells, cut_fits, cut_one}
 use Rattle.tree_pack.proofs.RowLemmas.{cut_within}
 
@@ -38,13 +39,13 @@ rest_is start cells = ap bytes_of (take_rest cells start) ∙ sym (drop-map (λ 
 pub taken_len : (n : ℕ) (text result : List ℕ) → result ≡ take n text → length result ≤ n
 taken_len n text result e = omega (arith, ap length e, length-take n text)
 
-pub first_fits_page : (kind : Kind) (n : ℕ) (left : List ℕ) (rest : List (List ℕ)) (right : ℕ) → n < 2 ^ 16 → 8 + right_room kind ≤ n → right ≤ right_room kind → 1 ≤ length left → PartsFit kind n left rest
+pub first_fits_page : (kind : Kind) (n : ℕ) (left : List ℕ) (rest : List (List ℕ)) (right : ℕ) → n ≤ 2 ^ 16 → 8 + right_room kind ≤ n → right ≤ right_room kind → 1 ≤ length left → PartsFit kind n left rest
     → Fits n 0 right (take (slice_index_or left 0 0) rest)
 first_fits_page kind n [] rest right near header le some parts = absurd (omega arith)
-first_fits_page kind n (count ∷ left) rest right near header le some parts = let fit = parts.fit.0 in record { addressed = near; room = omega (arith, fit) }
+first_fits_page kind n (count ∷ left) rest right near header le some parts = let fit = parts.fit.0 in record { addressed = near; some = some_take count rest parts.some; room = omega (arith, fit) }
 
-pub last_fits_page : (kind : Kind) (n : ℕ) (left : List ℕ) (rest : List (List ℕ)) (right : ℕ) → n < 2 ^ 16 → 8 + right_room kind ≤ n → right ≤ right_room kind → length left < 1 → PartsFit kind n left rest → Fits n 0 right rest
-last_fits_page kind n [] rest right near header le none_left parts = let fit = parts.fit.0 in record { addressed = near; room = omega (arith, fit) }
+pub last_fits_page : (kind : Kind) (n : ℕ) (left : List ℕ) (rest : List (List ℕ)) (right : ℕ) → n ≤ 2 ^ 16 → 8 + right_room kind ≤ n → right ≤ right_room kind → length left < 1 → PartsFit kind n left rest → Fits n 0 right rest
+last_fits_page kind n [] rest right near header le none_left parts = let fit = parts.fit.0 in record { addressed = near; some = parts.some; room = omega (arith, fit) }
 last_fits_page kind n (count ∷ left) rest right near header le none_left parts = absurd (omega arith)
 
 pub start_on : (kind : Kind) (n start up : ℕ) (left : List ℕ) (cells : List (List ℕ)) → up ≡ up_of kind → start ≤ length cells → 1 ≤ length left → PartsFit kind n left (drop start cells) → start + slice_index_or left 0 0 + up ≤ length cells
@@ -61,6 +62,7 @@ parts_on kind n start up (count ∷ left) cells e some parts =
     rw (take_all (suc (length left) - 1) left (omega arith), e)
     (subst (λ (xs : List (List ℕ)). PartsFit kind n left xs) (drop_on start count (up_of kind) cells) (record {
       within = subst (λ (m : ℕ). LieWithin (up_of kind) left m) (sym (length-drop (count + up_of kind) (drop start cells))) parts.within.2;
+      some = some_drop (count + up_of kind) (drop start cells) parts.some;
       fit = parts.fit.1;
     }))
 
@@ -119,6 +121,7 @@ pub cut_parts_fit : (kind : Kind) (n start : ℕ) (rises : Bool) (cells : List (
     → PartsFit kind n counts cells
 cut_parts_fit kind n start rises cells counts can cut = record {
   within = subst (λ (m : ℕ). LieWithin (up_of kind) counts m) (length-map cells cell_room) (cut_within (up_of kind) (n - start - 8 - right_room kind) rises (map cell_room cells) counts cut);
+  some = can.some;
   fit =
       of_cells cell_room (λ part. total part ≤ n - 8 - right_room kind) (λ part. total (map cell_room part) ≤ n - 8 - right_room kind) (λ part h. h) (up_of kind) counts cells
       (cut_fits (up_of kind) (n - start - 8 - right_room kind) (n - 8 - right_room kind) rises (map cell_room cells) counts (up_small kind) (omega arith) (rooms_small kind n cells can.small) cut);
@@ -141,4 +144,4 @@ uncut_fits kind n start rises cells right e can cut =
       | inl long ↦ cut_one (up_of kind) room rises (map cell_room cells) (omega (arith, long)) cut
       | inr few ↦ few_are_small (up_of kind) (n - 8 - right_room kind) room (map cell_room cells) (up_small kind) (omega (arith, header)) (rooms_small kind n cells can.small) few
     ] in
-    record { addressed = can.addressed; room = omega (arith, header, fit, e) }
+    record { addressed = can.addressed; some = can.some; room = omega (arith, header, fit, e) }

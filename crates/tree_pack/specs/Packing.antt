@@ -25,10 +25,11 @@ up_of IndexInterior = 1
 abbrev pub IsSmall : Kind → ℕ → List ℕ → Type 0
 IsSmall kind page_size cell = (up_of kind + 1) * cell_room cell ≤ page_size - 8 - right_room kind
 
--- What stands before the header, at most half of the page, leaves room for it, and each cell is small.
+-- What stands before the header, at most half of the page, leaves room for it, and each cell has a byte and is small.
 pub record CanPack (page_size start : ℕ) (kind : Kind) (cells : List (List ℕ)) : Type 0 where
-  pub addressed : page_size < 2 ^ 16
+  pub addressed : page_size ≤ 2 ^ 16
   pub header : 2 * start + 8 + right_room kind ≤ page_size
+  pub some : AllByRecursion (λ cell. 0 < length cell) cells
   pub small : AllByRecursion (IsSmall kind page_size) cells
 
 -- the cells of a page of this kind and size, with the last child of an interior page, say this

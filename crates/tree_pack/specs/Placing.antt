@@ -19,7 +19,7 @@ pub record IsPlaced (page : List ℕ) (start : ℕ) (cells : List (List ℕ)) (n
 -- Where a page says a node, and its cells with this one more say another of the same type and with the same last child, a page that is
 -- answered says that one, with these cells.
 abbrev pub Places : List ℕ → ℕ → ℕ → List ℕ → Result (Option (Vec ℕ)) Fault → Type 0
-Places page start place cell result = (old new : Node) (is : IsNode page start old) → length page < 2 ^ 16 → start ≤ 100 → place ≤ length is.cells
+Places page start place cell result = (old new : Node) (is : IsNode page start old) → length page ≤ 2 ^ 16 → start ≤ 100 → place ≤ length is.cells
     → code_of new ≡ code_of old → right_of new ≡ right_of old → Say (length page) (insert is.cells place cell) new
     → IfOk result (λ answer. IfSome answer (λ written. IsPlaced page start (insert is.cells place cell) new written.items))
 
@@ -38,12 +38,13 @@ least_in most [] = most
 least_in most (high ∷ []) = most
 least_in most (high ∷ low ∷ pointers) = least_in (min most (two_bytes high low)) pointers
 
--- Between so many pointers, with one more, and this offset there is room for so many bytes.
+-- Between so many pointers, with one more, and this offset there is room for so many bytes, one at least.
 pub record HasRoom (page : List ℕ) (start size pointers count low : ℕ) : Type 0 where
   pub after : start + 8 ≤ pointers
   pub room : pointers + 2 * count + 2 + size ≤ low
   pub within : low ≤ length page
-  pub near : low < 2 ^ 16
+  pub near : low ≤ 2 ^ 16
+  pub some : 0 < size
   pub few : count + 1 < 2 ^ 16
 
 -- The page has so many cells, with their pointers from here on, and each begins at or after this offset.

@@ -1,5 +1,5 @@
 -- Pages some of whose cells give way to others, and pages that are joined.
-use Rattle.std.specs.Prelude.{◌≡◌, ◌≤◌, ◌<◌, ◌+◌, ◌^◌, ◌==◌, ℕ, false, List, [], ◌++◌, length, take, drop, IfOk, IfSome, Option, Result, MatchResult}
+use Rattle.std.specs.Prelude.{◌≡◌, ◌≤◌, ◌+◌, ◌^◌, ◌==◌, ℕ, false, List, [], ◌++◌, length, take, drop, IfOk, IfSome, Option, Result, MatchResult}
 use Rattle.std.specs.Global.{Vec}
 use Rattle.sqlval.specs.declared.fault.Fault.{Fault}
 use Rattle.sqlval.specs.declared.fault.Fault.TheVariants.{Memory}
@@ -17,7 +17,7 @@ spliced from count news items = take from items ++ (news ++ drop (from + count) 
 -- a page of the format's sizes, whose header begins at its front or after the database's header
 pub record IsUsual (page : List ℕ) (start : ℕ) : Type 0 where
   pub least : 512 ≤ length page
-  pub addressed : length page < 2 ^ 16
+  pub addressed : length page ≤ 2 ^ 16
   pub near : start ≤ 100
 
 -- Where `count` cells of a page, from a place on, give way to these, and what all say then is a node of the page's kind, this node is

@@ -1,5 +1,5 @@
 -- The pages of parts, as they are written.
-use Rattle.std.specs.Prelude.{◌≤◌, ◌+◌, ◌-◌, ℕ, List, [], ◌∷◌, length, map, take, drop, Option, Some, None}
+use Rattle.std.specs.Prelude.{◌≤◌, ◌<◌, ◌+◌, ◌-◌, ℕ, List, [], ◌∷◌, length, map, take, drop, Option, Some, None}
 use Rattle.std.specs.List.{AllByRecursion}
 use Rattle.record.specs.Varint.{varint_at}
 use Rattle.tree_page.specs.declared.items.Kind.{Kind}
@@ -64,7 +64,8 @@ dividing kind [] cells = []
 dividing kind (count ∷ counts) cells =
     divider_of kind (take count cells) (drop count cells) ∷ dividing kind counts (drop (count + up_of kind) cells)
 
--- the cells of each part fit a page of their own
+-- the cells, each of which has a byte, fit a page of their own in each part
 pub record PartsFit (kind : Kind) (page_size : ℕ) (counts : List ℕ) (cells : List (List ℕ)) : Type 0 where
   pub within : LieWithin (up_of kind) counts (length cells)
+  pub some : AllByRecursion (λ cell. 0 < length cell) cells
   pub fit : AllByRecursion (λ part. total (map cell_room part) ≤ page_size - 8 - right_room kind) (parts_of (up_of kind) counts cells)

@@ -1,12 +1,12 @@
 //! Writing one page.
 
 ghost use Rattle.std.specs.Prelude.{◌≡◌, ◌≤◌, ◌<◌, ◌+◌, ◌++◌, ◌↔◌, ◌^◌, ◌-◌, [], ◌∷◌, IsTrue, length, map, replicate, reverse, min, IfOk, IfErr, OnOk};
-ghost use Rattle.std.specs.List.{flat_map};
+ghost use Rattle.std.specs.List.{AllByRecursion, flat_map};
 ghost use Rattle.std.specs.Int.{w16, to_be_bytes};
 ghost use Rattle.tree_page.specs.Cells.{pointer, page_header, IsTreePage};
 ghost use Rattle.tree_page.specs.Reading.{type_of};
 ghost use Rattle.tree_pack.specs.Parts.{total};
-ghost use Rattle.tree_pack.specs.Building.{Fits, cell_room, right_room, right_bytes, spans_below, content_of, page_of};
+ghost use Rattle.tree_pack.specs.Building.{Fits, cell_room, right_room, right_bytes, spans_below, content_of, content_bytes, page_of};
 
 use sqlval::{Fault, R};
 use std::alloc::{AllocError, Global};
@@ -58,11 +58,26 @@ pub(crate) fn room_of(cells: &[&[u8]], most: usize) -> usize
     room
 }
 
+/// Whether each cell has a byte.
+pub(crate) fn have_bytes(cells: &[&[u8]]) -> bool
+    ensures { IsTrue result ↔ AllByRecursion (λ cell. 0 < length cell)
+        (map (λ cell. cell.now) cells.now) }
+{
+    let mut left = cells;
+    'cells: while let [cell, after @ ..] = left {
+        if cell.is_empty() {
+            return false;
+        }
+        left = after;
+    }
+    true
+}
+
 /// Whether the cells fit a page of this kind and size whose header begins at `start`.
 pub fn fits(page_size: usize, start: usize, kind: Kind, cells: &[&[u8]]) -> bool
     ensures { IsTrue result ↔ Fits page_size start (right_room kind) (map (λ cell. cell.now) cells.now) }
 {
-    if page_size > 65535 || page_size < start {
+    if page_size > 65536 || page_size < start || !have_bytes(cells) {
         return false;
     }
     let used = start + 8 + right_len(kind);
@@ -71,12 +86,12 @@ pub fn fits(page_size: usize, start: usize, kind: Kind, cells: &[&[u8]]) -> bool
 
 /// Writes the header of a page with `count` cells, of which the last begins at `content`.
 fn put_header(out: &mut Vec<u8>, kind: Kind, count: usize, content: usize) -> Result<(), AllocError>
-    requires { (count < 2 ^ 16) × (content < 2 ^ 16) }
+    requires { (count < 2 ^ 16) × (content ≤ 2 ^ 16) }
     ensures { OnOk result (out.new.items ≡ out.old.items ++ page_header (type_of kind)
-        (0 ∷ 0 ∷ []) count (to_be_bytes w16 content) 0) }
+        (0 ∷ 0 ∷ []) count (content_bytes content) 0) }
 {
     let [high, low] = (count as u16).to_be_bytes();
-    let [content_high, content_low] = (content as u16).to_be_bytes();
+    let [content_high, content_low] = ((content % 65536) as u16).to_be_bytes();
     out.extend_from_slice(&[
         type_code(kind),
         0,
@@ -92,7 +107,8 @@ fn put_header(out: &mut Vec<u8>, kind: Kind, count: usize, content: usize) -> Re
 /// Writes the pointers to cells of which the first ends at `end` and each next one ends where the one before begins.
 fn put_pointers(out: &mut Vec<u8>, end: usize, cells: &[&[u8]]) -> Result<(), AllocError>
     requires room { total (map length (map (λ cell. cell.now) cells.now)) ≤ end }
-    requires addressed { end < 2 ^ 16 }
+    requires addressed { end ≤ 2 ^ 16 }
+    requires some { AllByRecursion (λ cell. 0 < length cell) (map (λ cell. cell.now) cells.now) }
     ensures { OnOk result (out.new.items ≡ out.old.items ++ flat_map pointer
         (spans_below end (map (λ cell. cell.now) cells.now))) }
 {

@@ -123,7 +123,7 @@ pub fn cells_are_small()
     ensures between { (page_size : ℕ) (cell : List ℕ) (kid : ℕ × Local) → 512 ≤ page_size
         → IsBetweenCell page_size cell kid → IsSmall Kind.IndexInterior page_size cell }
     ensures all { (kind : Kind) (page_size start : ℕ) (right : List ℕ) (cells : List (List ℕ)) (node : Node)
-        → 512 ≤ page_size → page_size < 2 ^ 16 → start ≤ 100 → AreOf kind page_size right cells node
+        → 512 ≤ page_size → page_size ≤ 2 ^ 16 → start ≤ 100 → AreOf kind page_size right cells node
         → CanPack page_size start kind cells }
 {}
 

@@ -52,8 +52,8 @@ struct Room {
     low: usize,
 }
 
-/// The room for a cell of so many bytes between the pointers and the other cells, if there is so much. None where the header says
-/// that the cells begin elsewhere: something else may lie there then.
+/// The room for a cell of so many bytes between the pointers and the other cells, if there is so much. None for no bytes, and where the
+/// header says that the cells begin elsewhere: something else may lie there then.
 fn find_room(page: &[u8], start: usize, size: usize) -> Option<Room>
     ensures room { IfSome result (λ room. HasRoom page.now start size room.pointers room.count room.low) }
     ensures lies { (node : Node) (is : IsNode page.now start node)
@@ -69,7 +69,10 @@ fn find_room(page: &[u8], start: usize, size: usize) -> Option<Room>
     let pointers = start + 8 + right_len(tree.kind());
     let end = pointers + 2 * count;
     let low = least_pointer(page.get(pointers..end)?, page.len());
-    let is_first = stands_at(page, start + 5, u16::try_from(low).ok()?);
+    if size == 0 || low > 65536 {
+        return None;
+    }
+    let is_first = stands_at(page, start + 5, (low % 65536) as u16);
     if !is_first || low < end + 2 || low - (end + 2) < size {
         return None;
     }
@@ -93,7 +96,8 @@ fn write(
     requires header { start + 7 ≤ middle }
     requires room { middle + 2 + length cell.now ≤ low }
     requires within { low ≤ length page.now }
-    requires near { low < 2 ^ 16 }
+    requires near { low ≤ 2 ^ 16 }
+    requires some { 0 < length cell.now }
     ensures { IfOk result (λ written. written.items ≡ placed_of page.now start middle count low cell.now) }
 {
     let at = low - cell.len();

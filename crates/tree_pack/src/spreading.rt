@@ -7,7 +7,7 @@ ghost use Rattle.tree_pack.specs.Building.{cell_room, right_room, right_bytes, F
 ghost use Rattle.tree_pack.specs.Packing.{up_of, IsSmall, CanPack, AreOf, images, divider_bytes, Packs};
 ghost use Rattle.tree_pack.specs.Spreading.{first_cell, row_key, last_key, divider_of, pages_of, dividing, PartsFit};
 
-use crate::building::{cell_len, right_len, write};
+use crate::building::{cell_len, have_bytes, right_len, write};
 use crate::cutting::cut;
 use record::get_varint;
 use sqlval::{Damage, Fault, R};
@@ -69,11 +69,11 @@ fn are_within(most: usize, cells: &[&[u8]]) -> bool
     true
 }
 
-/// Whether the page has room for a header after so many bytes, and each cell is small.
+/// Whether the page has room for a header after so many bytes, and each cell has a byte and is small.
 fn can_pack(page_size: usize, start: usize, kind: Kind, cells: &[&[u8]]) -> bool
     ensures { IsTrue result ↔ CanPack page_size start kind (map (λ cell. cell.now) cells.now) }
 {
-    if page_size > 65535 || page_size < start {
+    if page_size > 65536 || page_size < start || !have_bytes(cells) {
         return false;
     }
     2 * start + 8 + right_len(kind) <= page_size && are_within(most_len(kind, page_size), cells)
@@ -156,7 +156,7 @@ fn write_parts(
     cells: &[&[u8]],
     counts: &[usize],
 ) -> Result<Packed, AllocError>
-    requires header { (page_size < 2 ^ 16) × (8 + right_room kind ≤ page_size) }
+    requires header { (page_size ≤ 2 ^ 16) × (8 + right_room kind ≤ page_size) }
     requires right { length right.now ≡ right_room kind }
     requires parts { PartsFit kind page_size counts.now (map (λ cell. cell.now) cells.now) }
     ensures images { IfOk result (λ packed. images packed
@@ -234,7 +234,7 @@ fn spread(
 /// Puts the cells of a node onto pages, in order. If all fit, it is one page after `front`; else there are several, with
 /// nothing before their headers, and between two of them a cell of an interior page or an index goes up. `right` is the last
 /// child of an interior page. `rises` says that the change stands after all other cells: then the pages are full, else about
-/// half full. (`Damaged(Cell, 0)` if a cell isn't small, the page has no room for a header, or `right` is missing on an interior
+/// half full. (`Damaged(Cell, 0)` if a cell is empty or isn't small, the page has no room for a header, or `right` is missing on an interior
 /// page or given on another.)
 pub fn pack(
     alloc: Global,

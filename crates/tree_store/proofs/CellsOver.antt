@@ -1,7 +1,8 @@
 -- The cells of the page above.
-use Rattle.std.proofs.Common.{◌≡◌, ◌∙◌, ℕ, ◌+◌, List, [], ◌∷◌, ◌++◌, length, map, refl, sym, ap, arith, length-append}
+use Rattle.std.proofs.Common.{◌≡◌, ◌∙◌, ℕ, ◌+◌, ◌<◌, List, [], ◌∷◌, ◌++◌, length, map, refl, sym, ap, arith, length-append}
 use Rattle.std.proofs.lemmas.List.{append-nil}
 use Rattle.std.specs.Int.{w32, to_be_bytes}
+use Rattle.std.specs.List.{AllByRecursion}
 use Rattle.tree_pack.specs.Building.{cell_room}
 use Rattle.tree_pack.specs.Parts.{total}
 use Rattle.tree_store.specs.Storing.{cells_over}
@@ -21,3 +22,9 @@ rooms_over [] [] same = refl
 rooms_over [] (d ∷ ds) same = absurd (omega (arith, same))
 rooms_over (n ∷ ns) [] same = absurd (omega (arith, same))
 rooms_over (n ∷ ns) (d ∷ ds) same = (let rest = rooms_over ns ds (omega (arith, same)) in let long : length (to_be_bytes w32 n ++ d) ≡ 4 + length d = length-append (to_be_bytes w32 n) d in omega (arith, rest, long))
+
+-- each of these cells has its child's number
+pub some_over : (numbers : List ℕ) (dividers : List (List ℕ)) → AllByRecursion (λ (cell : List ℕ). 0 < length cell) (cells_over numbers dividers)
+some_over [] dividers = tt
+some_over (n ∷ ns) [] = tt
+some_over (n ∷ ns) (d ∷ ds) = ((let long : length (to_be_bytes w32 n ++ d) ≡ 4 + length d = length-append (to_be_bytes w32 n) d in omega (arith, long)), some_over ns ds)

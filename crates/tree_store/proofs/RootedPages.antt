@@ -21,7 +21,7 @@ use Rattle.tree_store.specs.declared.storing.Fan.{Fan}
 use Rattle.tree_store.specs.Storing.{IsOn, AreOlds, IsStored, Stores, CanRoot, IsLifted, IsRooted, cells_over, cells_of}
 use Rattle.tree_store.specs.Steps.{HasMoved, IsRaised, Raises}
 use Rattle.tree_store.proofs.MovedPages.{free_now, moved_then, moved_beside}
-use Rattle.tree_store.proofs.CellsOver.{rooms_over}
+use Rattle.tree_store.proofs.CellsOver.{rooms_over, some_over}
 
 pairs_long : {A B : Type 0} (P : A → B → Type 0) (xs : List A) (ys : List B) → Pairwise P xs ys → length xs ≡ length ys
 pairs_long P [] [] all = refl
@@ -45,6 +45,7 @@ cells_fit : (old new : PageMap) (size root : ℕ) (packed : Packed) (fan : Fan) 
     → Fits size (start_of root) 4 (cells_of fan)
 cells_fit old new size root packed fan fronts can cells_are on = subst (λ (l : List (List ℕ)). Fits size (start_of root) 4 l) (sym cells_are) (record {
   addressed = can.addressed;
+  some = some_over fronts (divider_bytes packed);
   room = (let rooms = rooms_over fronts (divider_bytes packed) (fronts_long new packed fronts fan.last on) in let room = can.room in omega (arith, rooms, room));
 })
 

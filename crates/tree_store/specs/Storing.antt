@@ -115,7 +115,7 @@ IsRooted old new size root kind free packed =
 pub record CanRoot (old : PageMap) (size root : ℕ) (packed : Packed) : Type 0 where
   pub sized : AllByRecursion (λ image. length image ≡ size) (images packed)
   pub front : packed.pieces.items ≡ [] → CanStand old size root packed.last.items
-  pub addressed : size < 2 ^ 16
+  pub addressed : size ≤ 2 ^ 16
   pub room : start_of root + 12 + total (map (λ divider. length divider + 6) (divider_bytes packed)) ≤ size
 
 -- Where the root isn't free, the packed pages are its tree's top; or memory was short, a disk's call failed, or there are as many pages as

@@ -172,9 +172,9 @@ few_parts up room rises sizes counts cut large small = elim (cases_lt 8 (length 
 ]
 
 -- the sizes of pages
-pub large_size : (size : ℕ) → IsPageSize size → (512 ≤ size) × (size < 2 ^ 16)
+pub large_size : (size : ℕ) → IsPageSize size → (512 ≤ size) × (size ≤ 2 ^ 16)
 large_size size is =
     let low : 2 ^ 9 ≤ 2 ^ is.exponent = pow-le-pow_right {n = 2} (omega arith) is.low in
-    let high : 2 ^ is.exponent ≤ 2 ^ 15 = pow-le-pow_right {n = 2} (omega arith) is.high in
+    let high : 2 ^ is.exponent ≤ 2 ^ 16 = pow-le-pow_right {n = 2} (omega arith) is.high in
     let e = is.power in
     (omega (arith, e, low), omega (arith, e, high))

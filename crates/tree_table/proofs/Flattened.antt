@@ -17,6 +17,7 @@ use Rattle.tree_overflow.proofs.Laying.{beside, keeps_then, same_keeps}
 use Rattle.tree_page.specs.Cells.{Pairwise, IsTreePage}
 use Rattle.tree_page.specs.Node.{Rows, Keys, IsNode, IsKeyCell}
 use Rattle.tree_page.specs.declared.items.Kind.TheVariants.{TableInterior}
+use Rattle.tree_pack.proofs.SmallLemmas.{say_some}
 use Rattle.tree_pack.specs.Building.{Fits}
 use Rattle.tree_store.specs.Saying.{Says}
 use Rattle.tree_store.specs.Sides.{children}
@@ -126,6 +127,7 @@ module _ (old : PageMap) (size depth root : ℕ) (low high : ℤ) (rows : List E
       let sizes = large_size size is.sized in
       record {
         addressed = sizes.1;
+        some = say_some size (cells_of fan) (Keys (children (top depth) is.kids) (top depth is.last)) (is.fan_is.cells, is.fan_is.near);
         room = (let near = start_le root in let small = cells_room (cells_of fan) (children (top depth) is.kids) is.fan_is.cells in let big = sizes.0 in omega (arith, near, small, few, big));
       }
 

@@ -47,7 +47,7 @@ use Rattle.tree_table.proofs.Staying.{AreSeen, lies_stays, says_stays, shows_sta
 -- ---- trees of one depth that are merged
 
 -- where the pages of two trees are packed together, they are the tops of all rows
-pub merged_tops : (map' : PageMap) (size depth : ℕ) → (512 ≤ size) × (size < 2 ^ 16) → AreWhole size map' → (low key high : ℤ) (a b : Tree depth) → Lies map' size depth a → Lies map' size depth b
+pub merged_tops : (map' : PageMap) (size depth : ℕ) → (512 ≤ size) × (size ≤ 2 ^ 16) → AreWhole size map' → (low key high : ℤ) (a b : Tree depth) → Lies map' size depth a → Lies map' size depth b
     → IsSorted depth low a key → IsSorted depth key b high → 1 < top depth a → 1 < top depth b → (cell : List ℕ) (number : ℕ) → IsKeyCell cell (number, key) → (result : Result Packed Fault)
     → MergesRows (page_at map' (top depth a)) (page_at map' (top depth b)) result → MergesKeys (page_at map' (top depth a)) cell (page_at map' (top depth b)) result
     → MatchResult result (AreMerged map' size depth low high a b) IsOutside

@@ -61,7 +61,7 @@ rises_join low (held ∷ rows) key others high first after = (first.0, rises_joi
 
 -- ---- leaves
 
-module _ (map' : PageMap) (size : ℕ) (sizes : (512 ≤ size) × (size < 2 ^ 16)) (low key high : ℤ) (a b : Leaf) (lies_a : IsLeaf map' size a) (lies_b : IsLeaf map' size b)
+module _ (map' : PageMap) (size : ℕ) (sizes : (512 ≤ size) × (size ≤ 2 ^ 16)) (low key high : ℤ) (a b : Leaf) (lies_a : IsLeaf map' size a) (lies_b : IsLeaf map' size b)
     (rise_a : Rises low a.rows key) (rise_b : Rises key b.rows high) (left right : List ℕ) (is_left : IsNode left 0 (Rows lies_a.said)) (is_right : IsNode right 0 (Rows lies_b.said))
     (long_left : length left ≡ size) (long_right : length right ≡ size) (packed : Packed)
     (packs : Packs TableLeaf (length left) [] false (is_left.cells ++ is_right.cells) (Rows (lies_a.said ++ lies_b.said)) packed) where
@@ -111,7 +111,7 @@ module _ (map' : PageMap) (size : ℕ) (sizes : (512 ≤ size) × (size < 2 ^ 16
 
 -- ---- interior pages
 
-module _ (map' : PageMap) (size depth : ℕ) (sizes : (512 ≤ size) × (size < 2 ^ 16)) (low key high : ℤ) (a b : Tree (suc depth)) (lies_a : Lies map' size (suc depth) a) (lies_b : Lies map' size (suc depth) b)
+module _ (map' : PageMap) (size depth : ℕ) (sizes : (512 ≤ size) × (size ≤ 2 ^ 16)) (low key high : ℤ) (a b : Tree (suc depth)) (lies_a : Lies map' size (suc depth) a) (lies_b : Lies map' size (suc depth) b)
     (sorted_a : IsSorted (suc depth) low a key) (sorted_b : IsSorted (suc depth) key b high) (left right : List ℕ)
     (is_left : IsNode left 0 (Keys (children (top depth) a.kids) (top depth a.last))) (is_right : IsNode right 0 (Keys (children (top depth) b.kids) (top depth b.last)))
     (long_left : length left ≡ size) (long_right : length right ≡ size) (cell : List ℕ) (number : ℕ) (cell_is : IsKeyCell cell (number, key)) (packed : Packed)

@@ -45,7 +45,7 @@ start_le : (n : ℕ) → start_of n ≤ 100
 start_le n = grind (arith, common_steps)
 
 -- pages of the format's sizes are usual
-pub usual : (size number : ℕ) (page : List ℕ) → (512 ≤ size) × (size < 2 ^ 16) → length page ≡ size → IsUsual page (start_of number)
+pub usual : (size number : ℕ) (page : List ℕ) → (512 ≤ size) × (size ≤ 2 ^ 16) → length page ≡ size → IsUsual page (start_of number)
 usual size number page sizes long = record { least = (let big = sizes.0 in omega (arith, big, long)); addressed = (let small = sizes.1 in omega (arith, small, long)); near = start_le number }
 
 module _ (old mid : PageMap) (size number ways : ℕ) (row : Entry) (low : ℤ) (t : Leaf) (high : ℤ) (free : List ℕ) (under : IsUnder old size number ways row.rowid zero low t high free)

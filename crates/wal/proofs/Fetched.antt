@@ -30,7 +30,7 @@ pub found_none : (A : Type 0) (result : Option ℕ) → (IsNone result → A) �
 found_none A (Some f) go is = absurd (let bad : true ≡ false = is in cc)
 found_none A None go is = go refl
 
--- a page has 512 bytes at least, and 32,768 at most
+-- a page has 512 bytes at least, and 65,536 at most
 pub size_low : (n : ℕ) → is_size n ≡ true → 512 ≤ n
 size_low n is =
     let s = size_is n is in
@@ -38,10 +38,10 @@ size_low n is =
     let e = s.power in
     omega (arith, e, low)
 
-pub size_high : (n : ℕ) → is_size n ≡ true → n ≤ 32768
+pub size_high : (n : ℕ) → is_size n ≡ true → n ≤ 65536
 size_high n is =
     let s = size_is n is in
-    let high : 2 ^ s.exponent ≤ 2 ^ 15 = pow-le-pow_right {n = 2} (omega arith) s.high in
+    let high : 2 ^ s.exponent ≤ 2 ^ 16 = pow-le-pow_right {n = 2} (omega arith) s.high in
     let e = s.power in
     omega (arith, e, high)
 
@@ -49,12 +49,12 @@ pub frame_bounds : (index : Index) (mark seen number frame : ℕ) → IsIndexTo 
 frame_bounds index mark seen number frame indexed found = (let is_old = indexed number found.has.place found.known found.has.within in (omega (arith, is_old.0, found.has.is), omega (arith, is_old.1, found.has.is)))
 
 -- where a frame's page begins
-pub frame_low : (s : State) (seen number frame : ℕ) → FindsFrame number seen s.index frame → frame_start s.header (frame - 1) ≤ 40000000000
+pub frame_low : (s : State) (seen number frame : ℕ) → FindsFrame number seen s.index frame → frame_start s.header (frame - 1) ≤ 70000000000
 frame_low s seen number frame found =
     let bounds = frame_bounds s.index s.mark seen number frame s.indexed found in
     let before : frame - 1 ≤ 1000000 = omega (arith, bounds.1, s.few) in
-    let small : 24 + s.header.page_size ≤ 32792 = omega (arith, s.same_size, size_high s.page_size s.size_is) in
-    let few : (frame - 1) * (24 + s.header.page_size) ≤ 1000000 * 32792 = mul-le-mul before small in
+    let small : 24 + s.header.page_size ≤ 65560 = omega (arith, s.same_size, size_high s.page_size s.size_is) in
+    let few : (frame - 1) * (24 + s.header.page_size) ≤ 1000000 * 65560 = mul-le-mul before small in
     omega (arith, few)
 
 -- and its page is in the log

@@ -6,7 +6,7 @@ use Rattle.std.specs.Prelude.{Option, Some, None, Result, Ok, Err, MatchOption, 
 use Rattle.std.proofs.Math.Nat.{mul-div_cancel}
 use Rattle.std.proofs.lemmas.Bool.{cases_lt}
 use Rattle.sqlval.specs.declared.fault.Fault.{Fault}
-use Rattle.sqlval.specs.declared.fault.Fault.TheVariants.{Memory, Io, Damaged, Unsupported, NotADatabase, Full, Syntax, NoSuch, Exists, Ambiguous, Misuse, Busy, StaleSnapshot, NoTransaction, InTransaction, NoSavepoint, NotNull, Unique, Check, Raised, RealRefused, TypeRefused, RowidFull, RowidMismatch, TooLong, RowChangedBefore, ViewReadOnly, Blank, Failed}
+use Rattle.sqlval.specs.declared.fault.Fault.TheVariants.{Memory, Io, Damaged, Unsupported, NotADatabase, Full, Syntax, NoSuch, Exists, Ambiguous, Misuse, Busy, StaleSnapshot, NoTransaction, InTransaction, NoSavepoint, NotNull, Unique, Check, Raised, RealRefused, TypeRefused, RowidFull, RowidMismatch, TooLong, RowChangedBefore, ViewReadOnly, Blank, Journal, Failed}
 use Rattle.sqlval.specs.declared.fault.Damage.TheVariants.{Header, Size, Page, Cell, FreeSpace, Record, Order, Depth, UsedTwice, Unused, Freelist, Schema, Index}
 use Rattle.sqlval.specs.declared.fault.Feature.TheVariants.{Float, RealColumn, PageSize, FileVersion, ReservedBytes, SchemaFormat, Encoding, AutoVacuum, LogFormat, PageKind, ColumnCount, SchemaObject, Limit, Statement, StatementForm, Connection}
 use Rattle.wal_frame.specs.declared.frame.FrameHeader.{FrameHeader}
@@ -138,6 +138,7 @@ refused_more A B C D TooLong is call none = absurd is
 refused_more A B C D RowChangedBefore is call none = absurd is
 refused_more A B C D ViewReadOnly is call none = absurd is
 refused_more A B C D Blank is call none = absurd is
+refused_more A B C D Journal is call none = absurd is
 refused_more A B C D Failed is call none = absurd is
 
 -- so at a `?`
@@ -146,4 +147,4 @@ refused_so (Ok x) A B C D fault same is call none = tt
 refused_so (Err e) A B C D fault same is call none = subst (λ (f : Fault). IsOpenRefusal C D f) (sym same) (refused_more A B C D fault is call none)
 
 pub some_size : (n : ℕ) → IsPageSize n → 0 < n
-some_size = by_size (λ (n : ℕ). 0 < n) (omega arith) (omega arith) (omega arith) (omega arith) (omega arith) (omega arith) (omega arith)
+some_size = by_size (λ (n : ℕ). 0 < n) (omega arith) (omega arith) (omega arith) (omega arith) (omega arith) (omega arith) (omega arith) (omega arith)

@@ -72,7 +72,7 @@ salts_same s t is = both_true s.first s.second t.first t.second (ap (λ (r : Sal
 -- the sums of one frame more
 
 pub page_words : (n : ℕ) → IsPageSize n → (q : ℕ) × (n ≡ 8 * q)
-page_words = by_size (λ (n : ℕ). (q : ℕ) × (n ≡ 8 * q)) (64, refl) (128, refl) (256, refl) (512, refl) (1024, refl) (2048, refl) (4096, refl)
+page_words = by_size (λ (n : ℕ). (q : ℕ) × (n ≡ 8 * q)) (64, refl) (128, refl) (256, refl) (512, refl) (1024, refl) (2048, refl) (4096, refl) (8192, refl)
 
 pub frame_len : (h : LogHeader) (log : List ℕ) (k : ℕ) → frame_start h (suc k) ≤ length log → length (frame_at h log k) ≡ 24 + h.page_size
 frame_len h log k whole = omega (arith, whole, start_more h k, length-take (24 + h.page_size) (drop (frame_start h k) log), length-drop (frame_start h k) log)

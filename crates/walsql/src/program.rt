@@ -1,8 +1,8 @@
 //! The program over given arguments, input and output.
 
 use disk_cache::CachedDisk;
-use disk_file::{FileDisk, sync_folder};
-use engine::{Engine, Refused, Rows, create, put_reply};
+use disk_file::{FileDisk, file_len, sync_folder};
+use engine::{Engine, Refused, Rows, convert, create, put_reply};
 use messages::put_message;
 use sqlval::{Fault, R};
 use std::alloc::Global;
@@ -74,6 +74,22 @@ fn open_or_create(
     }
 }
 
+/// Turns the database file into one in WAL mode, where it is of the older kind and has no journal beside it.
+fn convert_files<F: Files<File = File>>(
+    files: &F,
+    alloc: Global,
+    opened: (PageFile, PageFile),
+    name: &str,
+) -> R<(PageFile, PageFile)> {
+    let (db, log) = opened;
+    let mut db = db;
+    let mut log = log;
+    let journal_name = format!(in alloc; "{name}-journal")?;
+    let journal = file_len(files, journal_name.as_str())?;
+    convert(alloc, &mut db, &mut log, journal)?;
+    Ok((db, log))
+}
+
 /// Opens the database that the options name.
 fn start<F: Files<File = File>>(
     files: &F,
@@ -81,7 +97,11 @@ fn start<F: Files<File = File>>(
     options: &StartOptions<'_>,
 ) -> R<Engine<PageFile>> {
     let opened = open_files(files, alloc, options.name)?;
-    open_or_create(alloc, opened, options)
+    if !options.convert {
+        return open_or_create(alloc, opened, options);
+    }
+    let converted = convert_files(files, alloc, opened, options.name)?;
+    open_or_create(alloc, converted, options)
 }
 
 /// Writes a reply to a start, which was refused, as a line of output.

@@ -1,9 +1,9 @@
 //! The arguments of the command line.
 
-ghost use Rattle.std.specs.Prelude.{◌≡◌, IfOk, IfErr, MatchOption, codes, map, option_map, Some, true, false, string_bytes};
+ghost use Rattle.std.specs.Prelude.{◌≡◌, ◌↔◌, IsTrue, IfOk, IfErr, MatchOption, codes, map, option_map, Some, true, false, string_bytes};
 ghost use Rattle.clap.specs.Words.{app_of, first_value, found_of, kind_of, rule_of, takes};
 ghost use Rattle.clap.specs.declared.error.ErrorKind.TheVariants.{OutOfMemory};
-ghost use Rattle.walsql_args.specs.Settings.{AreSettings, Counts, IsRefusalOf, SpellsSalts, value_in, name_rule, page_size_rule, salt_rule, walsql};
+ghost use Rattle.walsql_args.specs.Settings.{AreSettings, Counts, IsRefusalOf, SpellsSalts, value_in, convert_rule, name_rule, page_size_rule, salt_rule, walsql, walsql_options};
 
 use byteorder::{BigEndian, ByteOrder};
 use clap::{Arg, ArgAction, ArgMatches, Command, value_parser};
@@ -25,6 +25,8 @@ pub struct StartOptions<'a> {
     pub page_size: u32,
     /// Salts of a new log.
     pub salts: Salts,
+    /// Whether a database file of the older kind is turned into one in WAL mode.
+    pub convert: bool,
     /// Name of the database file.
     pub name: &'a str,
 }
@@ -57,7 +59,7 @@ fn page_size_arg<'a>(alloc: Global) -> Arg<'a>
         .long("page-size")
         .value_name("N")
         .help(
-            "Page size in bytes of a new database: a power of two from 512 to 32768 [default: 4096]",
+            "Page size in bytes of a new database: a power of two from 512 to 65536 [default: 4096]",
         )
         .value_parser(value_parser!(u32))
 }
@@ -72,6 +74,17 @@ fn salt_arg<'a>(alloc: Global) -> Arg<'a>
     )
 }
 
+/// `--convert`.
+fn convert_arg<'a>(alloc: Global) -> Arg<'a>
+    ensures rule { rule_of result ≡ convert_rule }
+    ensures local { result.global ≡ false }
+{
+    Arg::new(alloc, "convert")
+        .long("convert")
+        .action(ArgAction::SetTrue)
+        .help("Turns a database file that isn't in WAL mode into one that is, before it is opened")
+}
+
 /// `DB`.
 fn name_arg<'a>(alloc: Global) -> Arg<'a>
     ensures rule { rule_of result ≡ name_rule }
@@ -83,9 +96,9 @@ fn name_arg<'a>(alloc: Global) -> Arg<'a>
         .help("Database file, created where it doesn't exist; its log is DB-wal")
 }
 
-/// The command line that the program takes.
-fn command<'a>(alloc: Global) -> Result<Command<'a>, clap::Error>
-    ensures app { IfOk result (λ command. app_of command ≡ walsql) }
+/// The command line that the program takes, as far as its options.
+fn options<'a>(alloc: Global) -> Result<Command<'a>, clap::Error>
+    ensures app { IfOk result (λ command. app_of command ≡ walsql_options) }
     ensures memory { IfErr result (λ error. kind_of error ≡ OutOfMemory) }
 {
     let command = Command::new(alloc, "walsql")
@@ -93,8 +106,16 @@ fn command<'a>(alloc: Global) -> Result<Command<'a>, clap::Error>
         .after_help(AFTER_HELP)
         .arg(page_size_arg(alloc))?
         .arg(salt_arg(alloc))?
-        .arg(name_arg(alloc))?;
+        .arg(convert_arg(alloc))?;
     Ok(command)
+}
+
+/// The command line that the program takes.
+fn command<'a>(alloc: Global) -> Result<Command<'a>, clap::Error>
+    ensures app { IfOk result (λ command. app_of command ≡ walsql) }
+    ensures memory { IfErr result (λ error. kind_of error ≡ OutOfMemory) }
+{
+    Ok(options(alloc)?.arg(name_arg(alloc))?)
 }
 
 /// The salts that 16 hexadecimal digits spell.
@@ -138,10 +159,20 @@ fn salts_or_first<'a>(digits: Option<&'a str>) -> Result<Salts, ArgsError<'a>>
     }
 }
 
+/// Whether this is the value of a flag that is set.
+fn is_set(value: Option<&str>) -> bool
+    ensures { IsTrue result ↔ (option_map (λ text. text.now) value.entry ≡ Some (codes "true")) }
+{
+    match value {
+        Some(text) => text == "true",
+        None => false,
+    }
+}
+
 /// The options that the matches give.
 fn settings_of<'a>(matches: &ArgMatches<'a>) -> Result<StartOptions<'a>, ArgsError<'a>>
     ensures given { IfOk result (λ options. AreSettings
-        (first_value (found_of matches.now)) options.page_size options.salts options.name.now) }
+        (first_value (found_of matches.now)) options.page_size options.salts options.convert options.name.now) }
     ensures refused { IfErr result (λ refused. IsRefusalOf
         (first_value (found_of matches.now) (codes "salt")) refused) }
 {
@@ -149,6 +180,7 @@ fn settings_of<'a>(matches: &ArgMatches<'a>) -> Result<StartOptions<'a>, ArgsErr
     Ok(StartOptions {
         page_size: page_size_of(matches.get_str("page-size")),
         salts,
+        convert: is_set(matches.get_str("convert")),
         name: matches.get_str("DB").unwrap_or(""),
     })
 }
@@ -160,7 +192,7 @@ pub fn settings<'a>(
 ) -> Result<StartOptions<'a>, ArgsError<'a>>
     // The options are those that the arguments match.
     ensures given { IfOk result (λ options. AreSettings
-        (value_in (map string_bytes arguments.entry.now)) options.page_size options.salts options.name.now) }
+        (value_in (map string_bytes arguments.entry.now)) options.page_size options.salts options.convert options.name.now) }
     // Of arguments that match the usage, only a `--salt` other than 16 hexadecimal digits is refused, or memory runs out.
     ensures refused { takes walsql (map string_bytes arguments.entry.now) ≡ true
         → IfErr result (λ refused. IsRefusalOf

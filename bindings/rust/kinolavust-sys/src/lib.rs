@@ -16,6 +16,12 @@ pub struct kinolavust_rows {
     _private: [u8; 0],
 }
 
+/// A statement that was read once.
+#[repr(C)]
+pub struct kinolavust_statement {
+    _private: [u8; 0],
+}
+
 /// Of a new file and a new log. A zero stands for the default.
 #[repr(C)]
 #[derive(Clone, Copy, Debug, Default)]
@@ -43,6 +49,47 @@ extern "C" {
         len: usize,
         rows: *mut *mut kinolavust_rows,
     ) -> c_int;
+    pub fn kinolavust_prepare(
+        db: *mut kinolavust,
+        sql: *const c_char,
+        len: usize,
+        statement: *mut *mut kinolavust_statement,
+    ) -> c_int;
+    pub fn kinolavust_parameter_count(statement: *const kinolavust_statement) -> usize;
+    pub fn kinolavust_parameter_name(
+        statement: *const kinolavust_statement,
+        place: usize,
+        len: *mut usize,
+    ) -> *const c_char;
+    pub fn kinolavust_parameter_place(
+        statement: *const kinolavust_statement,
+        name: *const c_char,
+        len: usize,
+    ) -> usize;
+    pub fn kinolavust_bind_null(statement: *mut kinolavust_statement, place: usize) -> c_int;
+    pub fn kinolavust_bind_integer(
+        statement: *mut kinolavust_statement,
+        place: usize,
+        number: i64,
+    ) -> c_int;
+    pub fn kinolavust_bind_text(
+        statement: *mut kinolavust_statement,
+        place: usize,
+        text: *const c_char,
+        len: usize,
+    ) -> c_int;
+    pub fn kinolavust_bind_blob(
+        statement: *mut kinolavust_statement,
+        place: usize,
+        bytes: *const c_void,
+        len: usize,
+    ) -> c_int;
+    pub fn kinolavust_run(
+        statement: *mut kinolavust_statement,
+        connection: c_uint,
+        rows: *mut *mut kinolavust_rows,
+    ) -> c_int;
+    pub fn kinolavust_finish(statement: *mut kinolavust_statement);
     pub fn kinolavust_refusal(db: *const kinolavust) -> c_int;
     pub fn kinolavust_message(db: *const kinolavust) -> *const c_char;
     pub fn kinolavust_place(db: *const kinolavust) -> u64;

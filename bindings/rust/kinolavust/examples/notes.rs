@@ -7,10 +7,12 @@ fn main() -> Result<()> {
     let connection = db.connection(1);
     connection.execute("CREATE TABLE notes(subject TEXT, note TEXT)")?;
     let transaction = connection.transaction()?;
-    transaction
-        .execute("INSERT INTO notes VALUES ('home', 'call Ann'), ('work', 'write the report')")?;
+    let mut insert = transaction.prepare("INSERT INTO notes VALUES (?, ?)")?;
+    insert.execute(&["home".into(), "call Ann".into()])?;
+    insert.execute(&["work".into(), "write the report".into()])?;
     transaction.commit()?;
-    for row in connection.execute("SELECT note FROM notes WHERE subject = 'home'")? {
+    let mut query = connection.prepare("SELECT note FROM notes WHERE subject = ?")?;
+    for row in query.query(&["home".into()])? {
         if let Value::Text(note) = &row[0] {
             println!("{note}");
         }

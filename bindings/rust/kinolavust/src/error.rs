@@ -41,11 +41,11 @@ impl Error {
         }
     }
 
-    /// The refusal of a path that holds a zero byte.
-    pub(crate) fn of_path() -> Error {
+    /// A call that isn't allowed.
+    pub(crate) fn misuse(message: String) -> Error {
         Error {
             number: 11,
-            message: "a path holds no zero byte".into(),
+            message,
             place: 0,
             subject: String::new(),
         }

@@ -7,7 +7,8 @@
 //! let connection = db.connection(1);
 //! connection.execute("CREATE TABLE notes(subject TEXT, note TEXT)")?;
 //! let transaction = connection.transaction()?;
-//! transaction.execute("INSERT INTO notes VALUES ('home', 'call Ann')")?;
+//! let mut insert = transaction.prepare("INSERT INTO notes VALUES (?, ?)")?;
+//! insert.execute(&["home".into(), "call Ann".into()])?;
 //! transaction.commit()?;
 //! let rows = connection.execute("SELECT note FROM notes")?;
 //! assert_eq!(rows, [[Value::from("call Ann")]]);
@@ -15,9 +16,11 @@
 //! ```
 
 mod error;
+mod statement;
 mod value;
 
 pub use error::{Error, Result};
+pub use statement::Statement;
 pub use value::Value;
 
 use kinolavust_sys as sys;
@@ -36,7 +39,7 @@ pub struct Database {
 /// What is chosen of a new file.
 #[derive(Clone, Copy, Debug, Default)]
 pub struct Options {
-    /// Bytes of a page: a power of two from 512 to 32768; 0 stands for 4096.
+    /// Bytes of a page: a power of two from 512 to 65536; 0 stands for 4096.
     pub page_size: u32,
     /// The salts of a new log; 0 stands for the default.
     pub salts: u64,
@@ -51,7 +54,7 @@ impl Database {
     /// Opens the database of a file; a new one is as the options say.
     pub fn open_with(path: impl AsRef<Path>, options: Options) -> Result<Database> {
         let path = CString::new(path.as_ref().as_os_str().as_encoded_bytes())
-            .map_err(|_| Error::of_path())?;
+            .map_err(|_| Error::misuse("a path holds no zero byte".into()))?;
         let options = sys::kinolavust_options {
             page_size: options.page_size,
             salts: options.salts,
@@ -104,9 +107,14 @@ impl<'a> Connection<'a> {
             )
         };
         match number {
-            sys::KINOLAVUST_OK => Ok((0..rows.count()).map(|row| rows.row(row)).collect()),
+            sys::KINOLAVUST_OK => Ok(rows.all()),
             number => Err(Error::last(number, self.db.at)),
         }
+    }
+
+    /// Reads a query, an INSERT, an UPDATE or a DELETE, to be run with values on this connection. A parameter is `?`, `?N` or `:name`.
+    pub fn prepare(&self, sql: &str) -> Result<Statement<'a>> {
+        Statement::prepare(*self, sql)
     }
 
     /// Begins a transaction, which is rolled back where it is let go of without a commit.
@@ -126,10 +134,15 @@ pub struct Transaction<'a> {
     is_open: bool,
 }
 
-impl Transaction<'_> {
+impl<'a> Transaction<'a> {
     /// Executes one statement in the transaction.
     pub fn execute(&self, sql: &str) -> Result<Vec<Row>> {
         self.connection.execute(sql)
+    }
+
+    /// Reads a statement, to be run with values on the transaction's connection, also after its end.
+    pub fn prepare(&self, sql: &str) -> Result<Statement<'a>> {
+        self.connection.prepare(sql)
     }
 
     /// Commits. Refused, it is rolled back.
@@ -161,6 +174,10 @@ struct Rows {
 }
 
 impl Rows {
+    fn all(&self) -> Vec<Row> {
+        (0..self.count()).map(|row| self.row(row)).collect()
+    }
+
     fn count(&self) -> usize {
         // SAFETY: the rows are those of a reply.
         unsafe { sys::kinolavust_row_count(self.at) }

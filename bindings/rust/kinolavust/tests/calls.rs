@@ -103,3 +103,67 @@ fn a_transaction_that_is_dropped_is_rolled_back() {
         [[Value::from(1)]]
     );
 }
+
+#[test]
+fn prepared_statements_take_values() {
+    let folder = Folder::new("prepared");
+    let db = Database::open(folder.file()).unwrap();
+    let connection = db.connection(1);
+    connection.execute("CREATE TABLE t(a INTEGER, b)").unwrap();
+    let large = Value::from(vec![7; 900_000]);
+    let values = [
+        [Value::from(i64::MIN), Value::from("it's \0 \"ü\"")],
+        [Value::from(i64::MAX), large],
+        [Value::from(None::<i64>), Value::from(&b""[..])],
+        [Value::from(true), Value::from(String::new())],
+    ];
+    let mut insert = connection
+        .prepare("INSERT INTO t VALUES (?, ?) /* ? */ -- ?")
+        .unwrap();
+    assert_eq!(insert.parameter_count(), 2);
+    for row in &values {
+        insert.execute(row).unwrap();
+    }
+    assert_eq!(connection.execute("SELECT a, b FROM t").unwrap(), values);
+    let mut query = db
+        .connection(2)
+        .prepare("SELECT a FROM t WHERE a > :least AND a <> :but")
+        .unwrap();
+    assert_eq!(query.parameter_index(":but"), Some(1));
+    assert_eq!(query.parameter_index("but"), None);
+    assert_eq!(
+        query.query(&[0.into(), i64::MAX.into()]).unwrap(),
+        [[Value::from(1)]]
+    );
+    let refused = query.query(&[0.into()]).unwrap_err();
+    assert_eq!(
+        (refused.number(), refused.to_string()),
+        (
+            11,
+            "the statement has 2 parameters, and 1 were given".into()
+        )
+    );
+    connection.execute("DROP TABLE t").unwrap();
+    let refused = insert.execute(&values[0]).unwrap_err();
+    assert_eq!((refused.number(), refused.subject()), (8, "t"));
+    let refused = connection.prepare("SELECT ?, FROM t").err().unwrap();
+    assert_eq!((refused.number(), refused.place()), (7, 10));
+    assert_eq!(connection.prepare("BEGIN").err().unwrap().number(), 4);
+}
+
+#[test]
+fn a_statement_of_a_transaction_stays() {
+    let folder = Folder::new("stays");
+    let db = Database::open(folder.file()).unwrap();
+    let connection = db.connection(1);
+    connection.execute("CREATE TABLE t(a INTEGER)").unwrap();
+    let transaction = connection.transaction().unwrap();
+    let mut insert = transaction.prepare("INSERT INTO t VALUES (?)").unwrap();
+    insert.execute(&[1.into()]).unwrap();
+    drop(transaction);
+    insert.execute(&[2.into()]).unwrap();
+    assert_eq!(
+        connection.execute("SELECT a FROM t").unwrap(),
+        [[Value::from(2)]]
+    );
+}

@@ -1,6 +1,6 @@
 use Rattle.std.proofs.Common.{refl, arith}
 use Rattle.db_header.specs.Header.{two_at, four_at}
-use Rattle.db_header.proofs.SpellingLemmas.{two_cells, four_cells, only_header}
+use Rattle.db_header.proofs.SpellingLemmas.{size_cells, four_cells, only_header}
 use Rattle.db_header.proofs.writing.write.Goals as goal
 
 pub returns-clause-is : goal.returns-clause-is
@@ -9,7 +9,7 @@ returns-clause-is c =
     record {
       long = omega arith;
       text = refl;
-      page_size = c.pair.ensures.value;
+      page_size = c.size_pair.ensures.value;
       served = c.requires;
       versions = refl;
       reserved = refl;
@@ -35,7 +35,7 @@ pub returns-clause-only : goal.returns-clause-only
 returns-clause-only c = λ other small is.
     let header = c.args.header.now in
     only_header other header _ _ _ _ _ _ _ _ _ _ _ (record {
-      size_is = two_cells header.page_size c.pair.result c.pair.ensures.len c.pair.ensures.only;
+      size_is = size_cells header.page_size c.size_pair.result c.size_pair.ensures.len c.size_pair.ensures.only;
       changes_is = four_cells header.change_counter c.quad.result c.quad.ensures.len c.quad.ensures.only;
       pages_is = four_cells header.size c.quad-2.result c.quad-2.ensures.len c.quad-2.ensures.only;
       trunk_is = four_cells header.freelist_trunk c.quad-3.result c.quad-3.ensures.len c.quad-3.ensures.only;

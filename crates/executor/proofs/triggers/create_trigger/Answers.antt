@@ -6,6 +6,7 @@ use Rattle.catalog.specs.Listed.{listed_in}
 use Rattle.catalog.specs.NewViews.{with_trigger}
 use Rattle.db_pages.specs.Schema.{schema_row}
 use Rattle.executor.specs.Listing.{AddsRow}
+use Rattle.executor.proofs.Calm.{calm_causes}
 use Rattle.executor.proofs.Creations.{handed_on, taken}
 use Rattle.executor.proofs.TriggerCreations.{Laws, creates_it, none_at, refused_row, refused_names, schema_stand}
 use Rattle.executor.proofs.triggers.create_trigger.Goals as goal
@@ -25,6 +26,10 @@ returns-in_err-bind_trigger-clause-made g c told text db held =
 pub returns-in_err-kept_trigger-clause-made : goal.returns-in_err-kept_trigger-clause-made
 returns-in_err-kept_trigger-clause-made g c told text db held =
     handed_on _ _ c.from_residual-in_err-kept_trigger.result c.in_err-kept_trigger.field-0.0 c.from_residual-in_err-kept_trigger.ensures.1 (inl (inl (inl (c.in_err-kept_trigger.ensures.kept c.args.definition.now text))))
+
+pub returns-in_err-kept_trigger-clause-causes : goal.returns-in_err-kept_trigger-clause-causes
+returns-in_err-kept_trigger-clause-causes g c =
+    calm_causes c.from_residual-in_err-kept_trigger.result c.in_err-kept_trigger.field-0.0 _ _ c.from_residual-in_err-kept_trigger.ensures.1 c.in_err-kept_trigger.ensures.not_disk
 
 pub returns-in_err-add_treeless_row-clause-made : goal.returns-in_err-add_treeless_row-clause-made
 returns-in_err-add_treeless_row-clause-made g c told text db held =

@@ -1,12 +1,14 @@
--- the values up to a place, and those that are left
-use Rattle.std.proofs.Common.{◌≡◌, ◌++◌, length, map}
+-- the values up to a place, and those that are left, for which there is room
+use Rattle.std.proofs.Common.{◌≡◌, ◌≤◌, ◌+◌, ◌++◌, length, map}
+use Rattle.std.specs.Prelude.{vec_len, vec_capacity}
 use Rattle.sqlval.specs.Fields.{value_of}
 use Rattle.record.specs.Columns.{values_from}
 use Rattle.record.proofs.columns.all_fields.Given as goal
 
 abbrev pub invariant-columns : goal.invariant-columns
 invariant-columns l =
-    map value_of l.fields.items ++ values_from (length l.types_left) l.types_left l.bodies_left ≡ values_from (length l.types) l.types l.bodies
+    (map value_of l.fields.items ++ values_from (length l.types_left) l.types_left l.bodies_left ≡ values_from (length l.types) l.types l.bodies)
+    × (vec_len l.fields + length l.types_left ≤ vec_capacity l.fields)
 
 abbrev pub decreases-columns : goal.decreases-columns
 decreases-columns l = length l.types_left

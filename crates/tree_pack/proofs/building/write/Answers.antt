@@ -1,9 +1,8 @@
 use Rattle.std.proofs.Common.{rules, ◌≡◌, ℕ, [], ◌∷◌, ◌++◌, ◌-◌, ◌*◌, length, map, replicate, refl, sym, ap, ◌∙◌, arith}
 use Rattle.std.proofs.lemmas.List.{length-map}
-use Rattle.std.specs.Int.{w16, to_be_bytes}
 use Rattle.tree_page.specs.Cells.{page_header}
 use Rattle.tree_page.specs.Reading.{type_of}
-use Rattle.tree_pack.specs.Building.{content_of}
+use Rattle.tree_pack.specs.Building.{content_of, content_bytes}
 use Rattle.tree_pack.proofs.BuildingLemmas.{room_is, page_parts}
 use Rattle.tree_pack.proofs.building.write.Goals as goal
 
@@ -37,5 +36,5 @@ returns c =
     let free : c.saturating_sub-free.result ≡ content - length out = search rules in
     page_parts c.args.front.now c.args.right.now c.in_ok-out.out.items c.extend_from_slice.new.self.items c.put_header.new.out.items c.extend_from_slice-2.new.self.items out c.put_zeros.new.out.items c.put_cells.new.out.items
     c.args.page_size content (length out) c.args.kind cells c.requires content_is c.in_ok-out.ensures.items c.in_ok-extend_from_slice.ensures.items
-    (c.in_ok-put_header.ensures ∙ ap (λ (n : ℕ). c.extend_from_slice.new.self.items ++ page_header (type_of c.args.kind) (0 ∷ 0 ∷ []) n (to_be_bytes w16 content) 0) (sym len))
+    (c.in_ok-put_header.ensures ∙ ap (λ (n : ℕ). c.extend_from_slice.new.self.items ++ page_header (type_of c.args.kind) (0 ∷ 0 ∷ []) n (content_bytes content) 0) (sym len))
     c.in_ok-extend_from_slice-2.ensures.items c.in_ok-put_pointers.ensures refl (c.in_ok-put_zeros.ensures ∙ ap (λ (n : ℕ). out ++ replicate n 0) free) c.in_ok-put_cells.ensures

@@ -27,7 +27,7 @@ returns-in_err-matches-clause-refused c = λ taken.
 pub returns-clause-given : goal.returns-clause-given
 returns-clause-given c =
     let same = same_values _ (map string_bytes c.args.arguments.now) c.in_ok-matches.matches c.in_ok-command.ensures.app c.in_ok-matches.ensures.matches in
-    IfOk-weaker c.settings_of.result _ _ (λ options h. subst (λ (value : Text → Option Text). AreSettings value options.page_size options.salts options.name.now) same h) c.settings_of.ensures.given
+    IfOk-weaker c.settings_of.result _ _ (λ options h. subst (λ (value : Text → Option Text). AreSettings value options.page_size options.salts options.convert options.name.now) same h) c.settings_of.ensures.given
 
 pub returns-clause-refused : goal.returns-clause-refused
 returns-clause-refused c = λ taken.

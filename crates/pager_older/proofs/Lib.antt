@@ -1,0 +1,4 @@
+pub mod FilePaging
+pub mod Fronts
+pub mod Telling
+pub mod VersionLemmas
