@@ -3,3 +3,4 @@ mod Splitting
 mod Decoding
 mod Numbering
 mod Placing
+mod Taking

@@ -1,13 +1,11 @@
 //! What C calls. A handle is given back by each call, except for `close`, through `out`.
 
-ghost use Rattle.std.specs.Prelude.{◌≡◌, ◌==◌, List, None, IsTrue, cond, is_some, length};
-ghost use Rattle.std.specs.List.{flat_map};
+ghost use Rattle.std.specs.Prelude.{◌≡◌, ◌==◌, None, IsTrue, cond, is_some, length};
 ghost use Rattle.engine.specs.Preparing.{IsPrepared, parameters_in};
 ghost use Rattle.engine.specs.declared.prepared.Prepared.{Prepared};
-ghost use Rattle.sqlval.specs.declared.value.Value.{Value};
 ghost use Rattle.kinolavust_c.specs.Numbers.{IsAnswer};
-ghost use Rattle.kinolavust_c.specs.Replies.{kept_reply, value_bytes};
-ghost use Rattle.kinolavust_c.specs.Slots.{kept_in};
+ghost use Rattle.kinolavust_c.specs.Replies.{kept_reply};
+ghost use Rattle.kinolavust_c.specs.Slots.{RunsWith, kept_in};
 
 use crate::handle::{Given, Handle};
 use crate::opened::{copy, open};
@@ -95,7 +93,7 @@ pub extern "C" fn kinolavust_session_run(
 ) -> u32
     ensures answer { IsAnswer result }
     ensures unused { kept_in handle.session.slots slot ≡ None → result ≡ 11 }
-    ensures read { result ≡ 0 → (read : List Value) × (values.now ≡ flat_map value_bytes read) }
+    ensures taken { result ≡ 0 → RunsWith handle.session.slots slot values.now }
 {
     let mut session = handle.into_box();
     let number = session.run(connection, slot, values);

@@ -1,12 +1,11 @@
 //! An open database over the bytes of its files.
 
 ghost use Rattle.std.specs.Prelude.{◌≡◌, ◌==◌, ◌⊎◌, List, Err, None, IfErr, IfOk, IsTrue, MatchResult, cond, is_some, length};
-ghost use Rattle.std.specs.List.{flat_map};
 ghost use Rattle.smallvec.specs.SmallVec.{SmallVec};
 ghost use Rattle.sqlval.specs.declared.value.Value.{Value};
 ghost use Rattle.kinolavust_c.specs.Numbers.{refusal_number};
-ghost use Rattle.kinolavust_c.specs.Replies.{IsReply, kept_reply, rows_bytes, value_bytes};
-ghost use Rattle.kinolavust_c.specs.Slots.{Prepares, Puts, kept_in};
+ghost use Rattle.kinolavust_c.specs.Replies.{IsReply, kept_reply, rows_bytes};
+ghost use Rattle.kinolavust_c.specs.Slots.{Prepares, Puts, RunsWith, kept_in};
 
 use crate::replies::{number, put_rows, refusal_or_nothing};
 use crate::slots::Slots;
@@ -120,7 +119,7 @@ impl Session {
     fn prepared_rows(&mut self, connection: u32, slot: usize, values: &[u8]) -> R<Vec<u8>>
         ensures rows { IfOk result (λ bytes. (rows : List (SmallVec Value)) × (bytes.items ≡ rows_bytes rows)) }
         ensures unused { kept_in self.old.slots slot ≡ None → result ≡ Err (Fault.Misuse Misuse.InputLine) }
-        ensures read { IfOk result (λ _. (read : List Value) × (values.now ≡ flat_map value_bytes read)) }
+        ensures taken { IfOk result (λ _. RunsWith self.old.slots slot values.now) }
         ensures same { self.new.slots ≡ self.old.slots }
     {
         let Some(statement) = self.slots.get(slot) else {
@@ -192,7 +191,7 @@ impl Session {
     pub fn run(&mut self, connection: u32, slot: usize, values: &[u8]) -> u32
         ensures reply { IsReply result (kept_reply self.new) }
         ensures unused { kept_in self.old.slots slot ≡ None → result ≡ 11 }
-        ensures read { result ≡ 0 → (read : List Value) × (values.now ≡ flat_map value_bytes read) }
+        ensures taken { result ≡ 0 → RunsWith self.old.slots slot values.now }
         ensures same { self.new.slots ≡ self.old.slots }
     {
         let reply = self.prepared_rows(connection, slot, values);
