@@ -164,6 +164,20 @@ def refusals(folder):
     same("each number has a class", set(range(1, 31)), set(kinolavust.CLASSES))
 
 
+def limits(folder):
+    """A parameter of LIMIT or OFFSET, which the engine takes as a literal."""
+    with kinolavust.connect(f"{folder}/limits.db") as db:
+        db.execute("CREATE TABLE t(a INTEGER, b TEXT)")
+        db.executemany("INSERT INTO t VALUES (?, ?)", [(it, f"? {it % 2}") for it in range(20)])
+        rows = lambda sql, *values: [a for (a,) in db.execute(sql, values)]  # noqa: E731
+        same("LIMIT ?", [0, 1, 2], rows("SELECT a FROM t ORDER BY a LIMIT ?", 3))
+        same("WHERE ?, LIMIT ? OFFSET ?", [5, 7], rows("SELECT a FROM t WHERE b = '? 1' AND a > ? -- why?\n ORDER BY a limit ? offset ?", 2, 2, 1))
+        same("another value", [9], rows("SELECT a FROM t WHERE b = '? 1' AND a > ? -- why?\n ORDER BY a limit ? offset ?", 2, 1, 3))
+        same("a text for LIMIT", "InterfaceError", (raised(lambda: rows("SELECT a FROM t LIMIT ?", "x")) or ("",))[0])
+        same("too few values", "ProgrammingError", (raised(lambda: rows("SELECT a FROM t WHERE a = ? LIMIT ?", 1)) or ("",))[0])
+        same("another refusal stays", ("ProgrammingError", 7), (raised(lambda: rows("SELEC a FROM t LIMIT 1")) or ())[:2])
+
+
 def transactions(folder):
     db = kinolavust.connect(f"{folder}/transactions.db")
     db.execute("CREATE TABLE t(a INTEGER)")
@@ -192,7 +206,7 @@ def transactions(folder):
 
 
 with tempfile.TemporaryDirectory() as room:
-    for part in (rows, parameters, statements, cursors, refusals, transactions):
+    for part in (rows, parameters, statements, cursors, limits, refusals, transactions):
         os.mkdir(f"{room}/{part.__name__}")
         part(f"{room}/{part.__name__}")
 print(f"Python: {passed} passed, {failed} failed")

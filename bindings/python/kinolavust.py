@@ -15,6 +15,7 @@ library is KINOLAVUST_LIB, or libkinolavust.so beside this file or in bindings/o
 import collections
 import ctypes
 import os
+import re
 
 apilevel = "2.0"
 threadsafety = 0
@@ -130,6 +131,8 @@ def _refusal(number, at):
 
 
 def _integer_of_64_bits(value):
+    if not isinstance(value, int):
+        raise InterfaceError(f"a whole number is wanted, and given was: {type(value).__name__}")
     if not -(1 << 63) <= value < 1 << 63:
         raise DataError(f"an integer outside 64 bits: {value}")
     return int(value)
@@ -233,6 +236,30 @@ class _Text:
         raise ProgrammingError("the statement has no parameters, and some were given")
 
 
+# What a `?` isn't a parameter in, a quoted text or a comment; then a `?`, with the word before it where that is LIMIT or OFFSET.
+_PLACE = re.compile(r"""'[^']*'?|"[^"]*"?|`[^`]*`?|\[[^]]*]?|--[^\n]*|/\*.*?(?:\*/|\Z)|(\b(?:LIMIT|OFFSET)\s+)?(\?)(?!\d)""", re.DOTALL | re.IGNORECASE)
+
+
+class _Limited:
+    """A statement with a parameter for LIMIT or OFFSET, whose numbers the engine takes as literals alone: they are written into its text."""
+
+    def __init__(self, sql):
+        self.pieces, self.is_limit, begun = [], [], 0
+        for place in filter(lambda it: it[2], _PLACE.finditer(sql)):
+            self.pieces.append(sql[begun : place.end() - 1])
+            self.is_limit.append(place[1] is not None)
+            begun = place.end()
+        self.pieces.append(sql[begun:])
+
+    def run(self, file, connection, parameters):
+        values = list(parameters)
+        if len(values) != len(self.is_limit):
+            raise ProgrammingError(f"the statement has {len(self.is_limit)} parameters, and {len(values)} were given")
+        written = ["?" if not is_limit else str(_integer_of_64_bits(value)) for is_limit, value in zip(self.is_limit, values)]
+        sql = "".join(piece + place for piece, place in zip(self.pieces, [*written, ""]))
+        return file.statement(sql).run(file, connection, [value for is_limit, value in zip(self.is_limit, values) if not is_limit])
+
+
 class _File:
     """An open file, which its connections share, with the statements that were prepared last."""
 
@@ -256,6 +283,11 @@ class _File:
             statement = self.statements.pop(sql, None) or _Statement(self, sql)
         except NotSupportedError as refusal:
             return _Text(sql, refusal.with_traceback(None))
+        except ProgrammingError as refusal:
+            limited = _Limited(sql)
+            if refusal.number != 7 or not any(limited.is_limit):
+                raise
+            return limited
         self.statements[sql] = statement
         while len(self.statements) > self.cached_statements:
             self.statements.popitem(last=False)
