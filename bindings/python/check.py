@@ -1,6 +1,9 @@
 """The calls of kinolavust.py, with the rows that the sqlite3 module gives for the same statements. Ends with 'Python: N passed, N failed'."""
 import collections
+import enum
+import gc
 import os
+import resource
 import sqlite3
 import sys
 import tempfile
@@ -178,6 +181,145 @@ def limits(folder):
         same("another refusal stays", ("ProgrammingError", 7), (raised(lambda: rows("SELEC a FROM t LIMIT 1")) or ())[:2])
 
 
+class Whole(enum.IntEnum):
+    SEVEN = 7
+
+
+class Text(str):
+    pass
+
+
+class Sequence:
+    """Values that are neither a list nor a tuple."""
+
+    def __init__(self, *values):
+        self.values = values
+
+    def __len__(self):
+        return len(self.values)
+
+    def __getitem__(self, place):
+        return self.values[place]
+
+
+def values(folder):
+    """Values of each type, alone and in each kind of container: as the sqlite3 module has them."""
+    ours, theirs = kinolavust.connect(f"{folder}/values.db"), sqlite3.connect(":memory:")
+    for value in (None, 0, -1, (1 << 63) - 1, -(1 << 63), True, False, Whole.SEVEN, Text("text"), "", "ü\0€\U0001f600", b"", b"\0",
+                  bytearray(b"bytes"), memoryview(b"a view")):
+        for sql, given in [("SELECT ?, 1", (value,)), ("SELECT ?, 1", [value]), ("SELECT :a, 1", {"a": value}), ("SELECT ?, 1", Sequence(value))]:
+            wanted, got = (db.execute(sql, given).fetchall() for db in (theirs, ours))
+            same(f"{value!r} in a {type(given).__name__}", wanted, got)
+            same("of the same type", [type(it) for it in wanted[0]], [type(it) for it in got[0]])
+    same("a view of each second byte", [(b"ace",)], ours.execute("SELECT ?", (memoryview(b"abcdef")[::2],)).fetchall())
+    same("values of a generator", [(1, 2)], ours.execute("SELECT ?, ?", (it for it in (1, 2))).fetchall())
+    ours.close()
+
+
+def raises(call):
+    """The name of any exception's class."""
+    try:
+        call()
+    except BaseException as error:
+        return type(error).__name__
+    return None
+
+
+class Failing(dict):
+    def __getitem__(self, name):
+        raise ZeroDivisionError
+
+
+def exceptions(folder):
+    """Exceptions of Python's own, and what a caller's code does in the midst of a call."""
+    db = kinolavust.connect(f"{folder}/exceptions.db")
+    db.execute("CREATE TABLE t(a)")
+    run = lambda *given: raises(lambda: db.execute(*given))  # noqa: E731
+    same("half a character", "UnicodeEncodeError", run("SELECT ?", ("\ud800",)))
+    same("half a character of a statement", "UnicodeEncodeError", run("SELECT '\ud800'"))
+    same("a statement that is no text", "TypeError", run(b"SELECT 1"))
+    same("values that are none", "TypeError", run("SELECT ?", 7))
+    same("a connection that is no number", "TypeError", raises(lambda: db.other("1")))
+    same("a connection that isn't there", ("ProgrammingError", 11), (raised(lambda: db.other(17).execute("SELECT 1")) or ())[:2])
+    same("a mapping that fails", "ZeroDivisionError", run("SELECT :a", Failing()))
+    same("many that are none", "TypeError", raises(lambda: db.executemany("INSERT INTO t VALUES (?)", 7)))
+    same("a zero byte in a name", "ValueError", raises(lambda: kinolavust.connect(f"{folder}/a\0b")))
+    same("a type and its text", ("InterfaceError", 0, "a parameter of a type that isn't supported: float"), raised(lambda: db.execute("SELECT ?", (1.5,))))
+    same("a range and its text", ("DataError", 0, f"an integer outside 64 bits: {1 << 63}"), raised(lambda: db.execute("SELECT ?", (1 << 63,))))
+    same("a count and its text", ("ProgrammingError", 0, "the statement has 2 parameters, and 1 were given"), raised(lambda: db.execute("SELECT ?, ?", (1,))))
+
+    def then(error):
+        yield (1,)
+        raise error
+
+    for error in (ZeroDivisionError, KeyboardInterrupt):
+        same("a generator that fails", error.__name__, raises(lambda: db.executemany("INSERT INTO t VALUES (?)", then(error))))
+
+    def within():
+        for number in (2, 3):
+            db.execute("INSERT INTO t VALUES (?)", (number * 10,))
+            yield (number,)
+
+    db.executemany("INSERT INTO t VALUES (?)", within())
+    same("the statement within itself", [1, 1, 20, 2, 30, 3], [a for (a,) in db.execute("SELECT a FROM t")])
+    same("rows of the last of many", [(3,)], db.executemany("SELECT ?", [(1,), (2,), (3,)]).fetchall())
+    same("many that are no values", [(1,)], db.executemany("SELECT 1", [(), ()]).fetchall())
+    same("many of none", [], db.executemany("SELECT ?", []).fetchall())
+    same("many of LIMIT", [(1,), (1,)], db.executemany("SELECT a FROM t LIMIT ?", [(1,), (2,)]).fetchall())
+    same("many of a statement that isn't prepared", 14, (raised(lambda: db.executemany("COMMIT", [(), ()])) or (0, 0))[1])
+
+    def closes():
+        yield (4,)
+        db.close()
+        yield (5,)
+
+    cursor = db.execute("SELECT a FROM t")
+    same("closed in the midst", ("ProgrammingError", 0, "the database is closed"), raised(lambda: db.executemany("INSERT INTO t VALUES (?)", closes())))
+    same("closed", ("ProgrammingError", 0, "the database is closed"), raised(lambda: db.execute("SELECT 1")))
+    same("rows stay", 6, len(cursor.fetchall()))
+    db.close()
+    with kinolavust.connect(f"{folder}/exceptions.db") as db:
+        same("what was inserted before", (7,), db.execute("SELECT count(*) FROM t").fetchone())
+
+
+def memory(folder):
+    """The same calls again and again take no more memory, and keep no reference to what they were given."""
+    db = kinolavust.connect(f"{folder}/memory.db", cached_statements=2)
+    db.execute("CREATE TABLE t(a INTEGER, b)")
+    text, data = "text" * 20000, b"bytes" * 20000
+    db.execute("INSERT INTO t VALUES (1, ?)", (data,))
+    name, number, given = "n" * 100, 1 << 40, [1, 2]
+
+    def calls():
+        db.execute("SELECT a, b, ?, ?, NULL FROM t", (text, data)).fetchall()
+        db.execute("SELECT :a, :b", {"a": name, "b": number}).fetchone()
+        db.execute("SELECT ?, ?", given)
+        db.executemany("SELECT ?", [(bytearray(data),), (memoryview(data),), (Text(name),)])
+        for sql, values in [("SELECT ?", (1.5,)), ("SELECT ?", (1 << 64,)), ("SELECT ?, ?", (text,)), ("SELECT x", ()), ("INSERT INTO t VALUES (?, ?)", (1, b"x" * 1_000_001)),
+                            ("SELECT ?", ("\ud800",)), ("SELECT :a, ?", {"a": 1}), ("SELECT :a", {}), ("SELECT ?", 7), ("COMMIT", ())]:
+            raises(lambda: db.execute(sql, values))
+        raises(lambda: db.executemany("SELECT ?", [(data,), (text, text)]))
+        raises(lambda: kinolavust.connect(folder))
+
+    def size():
+        gc.collect()
+        return [sys.getallocatedblocks(), *map(sys.getrefcount, (text, data, name, number, given, None, db, db._file))]
+
+    for _ in range(20):
+        calls()
+    before = size()
+    for _ in range(100):
+        calls()
+    most = resource.getrusage(resource.RUSAGE_SELF).ru_maxrss
+    after = size()
+    same("blocks and references", [], [it for it in zip(before, after) if abs(it[1] - it[0]) >= 50])
+    for _ in range(500):
+        db.execute("SELECT a, b, ?, ?, NULL FROM t", (text, data)).fetchall()
+        raises(lambda: db.execute("SELECT ?, x", (text,)))
+    same("memory beside Python's", True, resource.getrusage(resource.RUSAGE_SELF).ru_maxrss - most < 20000)
+    db.close()
+
+
 def transactions(folder):
     db = kinolavust.connect(f"{folder}/transactions.db")
     db.execute("CREATE TABLE t(a INTEGER)")
@@ -206,7 +348,7 @@ def transactions(folder):
 
 
 with tempfile.TemporaryDirectory() as room:
-    for part in (rows, parameters, statements, cursors, limits, refusals, transactions):
+    for part in (rows, parameters, statements, cursors, limits, refusals, values, exceptions, memory, transactions):
         os.mkdir(f"{room}/{part.__name__}")
         part(f"{room}/{part.__name__}")
 print(f"Python: {passed} passed, {failed} failed")

@@ -1,4 +1,4 @@
-"""kinolavust for Python: the database interface of PEP 249, over the shared library of bindings/c.
+"""kinolavust for Python: the database interface of PEP 249, over the library of bindings/c.
 
     import kinolavust
     with kinolavust.connect("notes.db") as db:
@@ -9,13 +9,39 @@
 
 Parameters are `?`, `?N` and `:name`. A statement is prepared, and kept for the next time that its text comes. Each statement commits
 by itself, except between BEGIN and COMMIT.
-`Connection.other(2)` is another of the sixteen connections of the same file, with its own transaction and snapshot. The shared
-library is KINOLAVUST_LIB, or libkinolavust.so beside this file or in bindings/out.
+`Connection.other(2)` is another of the sixteen connections of the same file, with its own transaction and snapshot.
+
+The library is called by the extension _kinolavust, beside this file, in bindings/out or on Python's path; where there is none for this
+Python, where KINOLAVUST_CTYPES is 1, or where KINOLAVUST_LIB names a shared library, by kinolavust_ctypes, which does the same more slowly.
 """
 import collections
-import ctypes
+import importlib.machinery
+import importlib.util
+import operator
 import os
 import re
+import sys
+
+
+def _extension():
+    """The extension, or None."""
+    if os.environ.get("KINOLAVUST_CTYPES") == "1" or os.environ.get("KINOLAVUST_LIB"):
+        return None
+    here = os.path.dirname(os.path.realpath(__file__))
+    found = importlib.machinery.PathFinder.find_spec("_kinolavust", [here, f"{here}/../out", *sys.path])
+    if not found:
+        return None
+    try:
+        module = importlib.util.module_from_spec(found)
+        found.loader.exec_module(module)
+    except ImportError:
+        return None
+    return module
+
+
+_library = _extension()
+if not _library:
+    import kinolavust_ctypes as _library
 
 apilevel = "2.0"
 threadsafety = 0
@@ -33,7 +59,7 @@ class Error(Exception):
     def __init__(self, message, number=0, place=0, subject=""):
         super().__init__(message)
         self.number, self.place, self.subject = number, place, subject
-        self.name = _name(number).decode() if number else ""
+        self.name = _library.name(number) if number else ""
 
 
 class InterfaceError(Error):
@@ -78,56 +104,9 @@ CLASSES = {
 }
 
 
-def _library():
-    here = os.path.dirname(os.path.realpath(__file__))
-    places = [f"{here}/libkinolavust.so", f"{here}/../out/libkinolavust.so"]
-    return os.environ.get("KINOLAVUST_LIB") or next(filter(os.path.exists, places), "libkinolavust.so")
-
-
-_lib = ctypes.CDLL(_library())
-_p, _size, _int = ctypes.c_void_p, ctypes.c_size_t, ctypes.c_int
-
-
-def _declare(name, gives, *takes):
-    function = getattr(_lib, f"kinolavust_{name}")
-    function.restype, function.argtypes = gives, takes
-    return function
-
-
-class _Options(ctypes.Structure):
-    _fields_ = [("page_size", ctypes.c_uint32), ("salts", ctypes.c_uint64)]
-
-
-_open = _declare("open", _int, ctypes.c_char_p, ctypes.POINTER(_Options), ctypes.POINTER(_p))
-_execute = _declare("execute", _int, _p, ctypes.c_uint, ctypes.c_char_p, _size, ctypes.POINTER(_p))
-_prepare = _declare("prepare", _int, _p, ctypes.c_char_p, _size, ctypes.POINTER(_p))
-_parameter_count = _declare("parameter_count", _size, _p)
-_parameter_name = _declare("parameter_name", _p, _p, _size, ctypes.POINTER(_size))
-_bind_null = _declare("bind_null", _int, _p, _size)
-_bind_integer = _declare("bind_integer", _int, _p, _size, ctypes.c_int64)
-_bind_text = _declare("bind_text", _int, _p, _size, ctypes.c_char_p, _size)
-_bind_blob = _declare("bind_blob", _int, _p, _size, ctypes.c_char_p, _size)
-_run = _declare("run", _int, _p, ctypes.c_uint, ctypes.POINTER(_p))
-_finish = _declare("finish", None, _p)
-_message = _declare("message", ctypes.c_char_p, _p)
-_place = _declare("place", ctypes.c_uint64, _p)
-_subject = _declare("subject", _p, _p, ctypes.POINTER(_size))
-_name = _declare("name", ctypes.c_char_p, _int)
-_row_count = _declare("row_count", _size, _p)
-_column_count = _declare("column_count", _size, _p, _size)
-_kind = _declare("kind", _int, _p, _size, _size)
-_integer = _declare("integer", ctypes.c_int64, _p, _size, _size)
-_bytes = _declare("bytes", _p, _p, _size, _size, ctypes.POINTER(_size))
-_free = _declare("free", None, _p)
-_close = _declare("close", None, _p)
-
-
-def _refusal(number, at):
-    """The exception for the last refusal of an open database."""
-    count = _size()
-    subject = ctypes.string_at(_subject(at, ctypes.byref(count)), count.value).decode(errors="replace")
-    message = _message(at).decode(errors="replace")
-    return CLASSES.get(number, DatabaseError)(message, number, _place(at), subject)
+def _exception(number, message, place, subject):
+    """The exception of a refusal; of number 0, that of a closed database."""
+    return (CLASSES.get(number, DatabaseError) if number else ProgrammingError)(message, number, place, subject)
 
 
 def _integer_of_64_bits(value):
@@ -138,99 +117,60 @@ def _integer_of_64_bits(value):
     return int(value)
 
 
-def _value(rows, row, column):
-    kind, count = _kind(rows, row, column), _size()
-    if kind == 0:
+def _plain_value(value):
+    if value is None:
         return None
-    if kind == 1:
-        return _integer(rows, row, column)
-    at = _bytes(rows, row, column, ctypes.byref(count))
-    data = ctypes.string_at(at, count.value)
-    return data.decode() if kind == 2 else data
+    if isinstance(value, int):
+        return _integer_of_64_bits(value)
+    if isinstance(value, str):
+        return str.__str__(value)
+    if isinstance(value, (bytes, bytearray, memoryview)):
+        return bytes(value)
+    raise InterfaceError(f"a parameter of a type that isn't supported: {type(value).__name__}")
 
 
-def _rows(rows):
-    """The rows of a reply as tuples. They are freed."""
+def _values_by_name(names, parameters):
+    if None in names:
+        raise ProgrammingError(f"parameter {names.index(None) + 1} has no name, and values by name were given")
     try:
-        return [tuple(_value(rows, row, it) for it in range(_column_count(rows, row))) for row in range(_row_count(rows))]
-    finally:
-        _free(rows)
+        return [parameters[name] for name in names]
+    except LookupError as error:
+        raise ProgrammingError(f"no value was given for the parameter {error}") from None
 
 
-class _Statement:
-    """A prepared statement of an open file. (It doesn't hold the file, which holds it.)"""
+def _plain_values(names, parameters):
+    """The values of a statement's parameters, one for each name, in the order of their places: None, int of 64 bits, str or bytes."""
+    values = _values_by_name(names, parameters) if hasattr(parameters, "keys") else tuple(parameters)
+    if len(values) != len(names):
+        raise ProgrammingError(f"the statement has {len(names)} parameters, and {len(values)} were given")
+    return tuple(map(_plain_value, values))
+
+
+class _Unprepared:
+    """A statement that is read each time."""
 
     def __init__(self, file, sql):
-        self.at = _p()
-        text = sql.encode()
-        number = _prepare(file.at, text, len(text), ctypes.byref(self.at))
-        if number:
-            raise _refusal(number, file.at)
-        self.count = _parameter_count(self.at)
-        self.names = [self._name(place) for place in range(1, self.count + 1)]
+        self.file, self.sql = file, sql
 
-    def _name(self, place):
-        """The name of a parameter without its mark, or None."""
-        count = _size()
-        at = _parameter_name(self.at, place, ctypes.byref(count))
-        name = ctypes.string_at(at, count.value).decode() if at else "?"
-        return None if name[0] == "?" else name[1:]
-
-    def _values(self, parameters):
-        """The values in the order of their places."""
-        if not hasattr(parameters, "keys"):
-            return list(parameters)
-        if None in self.names:
-            raise ProgrammingError(f"parameter {self.names.index(None) + 1} has no name, and values by name were given")
-        try:
-            return [parameters[name] for name in self.names]
-        except LookupError as error:
-            raise ProgrammingError(f"no value was given for the parameter {error}") from None
-
-    def _bind(self, file, place, value):
-        if value is None:
-            number = _bind_null(self.at, place)
-        elif isinstance(value, int):
-            number = _bind_integer(self.at, place, _integer_of_64_bits(value))
-        elif isinstance(value, str):
-            text = value.encode()
-            number = _bind_text(self.at, place, text, len(text))
-        elif isinstance(value, (bytes, bytearray, memoryview)):
-            data = bytes(value)
-            number = _bind_blob(self.at, place, data, len(data))
-        else:
-            raise InterfaceError(f"a parameter of a type that isn't supported: {type(value).__name__}")
-        if number:
-            raise _refusal(number, file.at)
-
-    def run(self, file, connection, parameters):
-        """Runs it with these values, and gives its rows as tuples."""
-        values, rows = self._values(parameters), _p()
-        if len(values) != self.count:
-            raise ProgrammingError(f"the statement has {self.count} parameters, and {len(values)} were given")
-        file.check()
-        for place, value in enumerate(values, 1):
-            self._bind(file, place, value)
-        number = _run(self.at, connection, ctypes.byref(rows))
-        if number:
-            raise _refusal(number, file.at)
-        return _rows(rows)
-
-    def __del__(self):
-        if getattr(self, "at", None):
-            _finish(self.at)
+    def run_many(self, connection, many):
+        """Runs it with each of these, and gives the rows of the last."""
+        rows = []
+        for parameters in many:
+            rows = self.run(connection, parameters)
+        return rows
 
 
-class _Text:
+class _Text(_Unprepared):
     """A statement that can't be prepared, as CREATE TABLE or BEGIN, and why."""
 
-    def __init__(self, sql, refusal):
-        self.sql, self.refusal = sql, refusal
+    def __init__(self, file, sql, refusal):
+        super().__init__(file, sql)
+        self.refusal = refusal
 
-    def run(self, file, connection, parameters):
+    def run(self, connection, parameters):
         """Executes it, if no values are given."""
         if not parameters:
-            return file.rows(connection, self.sql)
+            return self.file.handle.execute(connection, self.sql)
         if "?" in self.sql or ":" in self.sql:
             raise self.refusal
         raise ProgrammingError("the statement has no parameters, and some were given")
@@ -240,10 +180,11 @@ class _Text:
 _PLACE = re.compile(r"""'[^']*'?|"[^"]*"?|`[^`]*`?|\[[^]]*]?|--[^\n]*|/\*.*?(?:\*/|\Z)|(\b(?:LIMIT|OFFSET)\s+)?(\?)(?!\d)""", re.DOTALL | re.IGNORECASE)
 
 
-class _Limited:
+class _Limited(_Unprepared):
     """A statement with a parameter for LIMIT or OFFSET, whose numbers the engine takes as literals alone: they are written into its text."""
 
-    def __init__(self, sql):
+    def __init__(self, file, sql):
+        super().__init__(file, sql)
         self.pieces, self.is_limit, begun = [], [], 0
         for place in filter(lambda it: it[2], _PLACE.finditer(sql)):
             self.pieces.append(sql[begun : place.end() - 1])
@@ -251,65 +192,60 @@ class _Limited:
             begun = place.end()
         self.pieces.append(sql[begun:])
 
-    def run(self, file, connection, parameters):
+    def run(self, connection, parameters):
         values = list(parameters)
         if len(values) != len(self.is_limit):
             raise ProgrammingError(f"the statement has {len(self.is_limit)} parameters, and {len(values)} were given")
         written = ["?" if not is_limit else str(_integer_of_64_bits(value)) for is_limit, value in zip(self.is_limit, values)]
         sql = "".join(piece + place for piece, place in zip(self.pieces, [*written, ""]))
-        return file.statement(sql).run(file, connection, [value for is_limit, value in zip(self.is_limit, values) if not is_limit])
+        return self.file.statement(sql).run(connection, [value for is_limit, value in zip(self.is_limit, values) if not is_limit])
+
+
+def _name_of_file(path):
+    name = os.fsencode(path)
+    if b"\0" in name:
+        raise ValueError("a zero byte in the name of a file")
+    return name
 
 
 class _File:
     """An open file, which its connections share, with the statements that were prepared last."""
 
     def __init__(self, path, page_size, salts, cached_statements):
-        self.at, self.cached_statements = _p(), cached_statements
-        self.statements = collections.OrderedDict()
-        number = _open(os.fsencode(path), ctypes.byref(_Options(page_size, salts)), ctypes.byref(self.at))
-        if number:
-            refusal = _refusal(number, self.at)
-            self.close()
-            raise refusal
-
-    def check(self):
-        if not self.at:
-            raise ProgrammingError("the database is closed")
+        self.cached_statements, self.statements = cached_statements, collections.OrderedDict()
+        self.handle = _library.File(_name_of_file(path), page_size, salts, _exception, _plain_values)
 
     def statement(self, sql):
         """The statement of a text. Those that were prepared are kept: the one that wasn't used for longest makes room for a new one."""
-        self.check()
+        statement = self.statements.get(sql)
+        if not statement:
+            return self._new_statement(sql)
+        self.statements.move_to_end(sql)
+        return statement
+
+    def _new_statement(self, sql):
+        if not isinstance(sql, str):
+            raise TypeError(f"a statement is a str, and given was: {type(sql).__name__}")
         try:
-            statement = self.statements.pop(sql, None) or _Statement(self, sql)
+            statement = self.handle.prepare(sql)
         except NotSupportedError as refusal:
-            return _Text(sql, refusal.with_traceback(None))
+            return _Text(self, sql, refusal.with_traceback(None))
         except ProgrammingError as refusal:
-            limited = _Limited(sql)
+            limited = _Limited(self, sql)
             if refusal.number != 7 or not any(limited.is_limit):
                 raise
             return limited
+        self._keep(sql, statement)
+        return statement
+
+    def _keep(self, sql, statement):
         self.statements[sql] = statement
         while len(self.statements) > self.cached_statements:
             self.statements.popitem(last=False)
-        return statement
-
-    def rows(self, connection, sql):
-        """Executes a statement, and gives its rows as tuples."""
-        self.check()
-        text, rows = sql.encode(), _p()
-        number = _execute(self.at, connection, text, len(text), ctypes.byref(rows))
-        if number:
-            raise _refusal(number, self.at)
-        return _rows(rows)
 
     def close(self):
         self.statements.clear()
-        at, self.at = self.at, _p()
-        _close(at)
-
-    def __del__(self):
-        if getattr(self, "at", None):
-            self.close()
+        self.handle.close()
 
 
 class Connection:
@@ -327,14 +263,14 @@ class Connection:
         return Cursor(self)
 
     def execute(self, sql, parameters=()):
-        return self.cursor().execute(sql, parameters)
+        return Cursor(self, self._file.statement(sql).run(self.number, parameters))
 
     def executemany(self, sql, many):
         return self.cursor().executemany(sql, many)
 
     def other(self, number):
         """Another connection of the same file, 1 to 16."""
-        return Connection(self._file, number)
+        return Connection(self._file, operator.index(number))
 
     def commit(self):
         """Ends the transaction, if one is open."""
@@ -346,7 +282,7 @@ class Connection:
 
     def _end(self, word):
         try:
-            self._file.rows(self.number, word)
+            self._file.handle.execute(self.number, word)
         except OperationalError as error:
             if error.number != 14:
                 raise
@@ -360,45 +296,38 @@ class Connection:
 
     def __exit__(self, kind, *_):
         try:
-            if self._file.at:
+            if self._file.handle.is_open:
                 self.rollback() if kind else self.commit()
         finally:
             self.close()
 
 
-class Cursor:
+class Cursor(_library.Rows):
+    """The rows of the statement that it executed last, as an iterator."""
+
     arraysize = 1
     rowcount = -1
     description = None
     lastrowid = None
 
-    def __init__(self, connection):
-        self.connection, self._rows = connection, iter(())
-
     def execute(self, sql, parameters=()):
-        return self.executemany(sql, (parameters,))
+        connection = self.connection
+        self._take(connection._file.statement(sql).run(connection.number, parameters))
+        return self
 
     def executemany(self, sql, many):
-        file, number = self.connection._file, self.connection.number
-        statement = file.statement(sql)
-        for parameters in many:
-            self._rows = iter(statement.run(file, number, parameters))
+        connection = self.connection
+        self._take(connection._file.statement(sql).run_many(connection.number, many))
         return self
 
     def fetchone(self):
-        return next(self._rows, None)
+        return next(self, None)
 
     def fetchmany(self, size=None):
-        return [row for _, row in zip(range(self.arraysize if size is None else size), self._rows)]
+        return [row for _, row in zip(range(self.arraysize if size is None else size), self)]
 
     def fetchall(self):
-        return list(self._rows)
-
-    def __iter__(self):
-        return self
-
-    def __next__(self):
-        return next(self._rows)
+        return list(self)
 
     def setinputsizes(self, sizes):
         pass
@@ -407,7 +336,7 @@ class Cursor:
         pass
 
     def close(self):
-        self._rows = iter(())
+        self._take(())
 
 
 def connect(path, page_size=0, salts=0, cached_statements=100):

@@ -14,7 +14,7 @@ use Rattle.session.specs.Holding.{Hold, LeaveHeld}
 use Rattle.session.proofs.Standing.{held_if_stored}
 use Rattle.engine.specs.Creating.{LeavesBlankOrCreated}
 use Rattle.engine.specs.Opening.{LeavesOpened}
-use Rattle.engine.specs.Promises.{AreFoundAgain, CrashKeepsCommits, CrashKeepsRuns, HoldsEarlier, IsTrueAtMoments, IsTrueEarlier, OpeningKeeps, RepresentedFilesHold}
+use Rattle.engine.specs.Promises.{AreFoundAgain, CrashKeepsCommits, CrashKeepsPrepared, CrashKeepsRuns, HoldsEarlier, IsTrueAtMoments, IsTrueEarlier, OpeningKeeps, RepresentedFilesHold}
 use Rattle.engine.specs.declared.opening.Engine.{Engine}
 
 -- ---- fewer versions
@@ -86,6 +86,9 @@ module _ {D : Type 0} {g : Ghosts D} where
 
   pub crash_keeps : (old new : Engine D g) → CrashKeepsCommits old new
   crash_keeps old new m connection text reply to = found_throughout (MayShow m to.next) _ _ _ _ to.crash
+
+  pub prepared_keep : (old new : Engine D g) → CrashKeepsPrepared old new
+  prepared_keep old new m connection bound reply to = found_throughout (MayShow m to.next) _ _ _ _ to.crash
 
   pub runs_keep : (old new : Engine D g) → CrashKeepsRuns old new
   runs_keep old new m lines replies to = found_throughout (MayShowInRun m to.end) _ _ _ _ to.crash

@@ -3,6 +3,7 @@ use Rattle.std.proofs.Common.{◌≡◌, ◌≤◌, inl, inr, refl, sym, ap, ◌
 use Rattle.std.specs.Prelude.{⊤, ◌==◌, ◌||◌, nat_lt, if◌then◌else◌, IsTrue, Option, Result, Ok, Err, OnOk, OnErr, IsErrAnd}
 use Rattle.std.proofs.lemmas.Result.{IfErr-weaker}
 use Rattle.std.proofs.lemmas.Bool.{cases_Bool, false≢true}
+use Rattle.std.proofs.lemmas.Bool.Decides.{nat_tests}
 use Rattle.disk.specs.Calls.{Rose}
 use Rattle.disk.specs.declared.device.Disk.{Ghosts}
 use Rattle.disk.proofs.Moments.{rose_after}
@@ -11,7 +12,7 @@ use Rattle.sqlval.specs.declared.fault.Fault.TheVariants.{Io, Misuse}
 use Rattle.sqlval.specs.declared.fault.Misuse.TheVariants.{Connection}
 use Rattle.pages.specs.Calls.{Causes, IsCause}
 use Rattle.pager.specs.Sights.{failures_of}
-use Rattle.session.specs.ConnectionState.{first_refusal}
+use Rattle.session.specs.ConnectionState.{IsNoConnection, first_refusal}
 use Rattle.session.proofs.Showing.{the_same}
 use Rattle.engine.proofs.Refusing.{on_err}
 use Rattle.wal.specs.LogState.{db_of, log_of}
@@ -34,6 +35,19 @@ check_not_io false connection fault is io = by_number (connection == 0 || nat_lt
     by_number : (b : Bool) → ◌≡◌ {A = Result ⊤ Fault} (if b then Err (Misuse Connection) else Ok tt) (Err fault) → ⊥
     by_number true is = absurd cc
     by_number false is = absurd cc
+
+-- where no commit has failed, a connection from 1 to 16 isn't refused at first
+pub check_passes : (has_failed : Bool) (connection : ℕ) (fault : Fault) → has_failed ≡ false → (IsNoConnection connection → ⊥) → first_refusal has_failed connection ≡ Err fault → ⊥
+check_passes true connection fault whole there is = false≢true (sym whole)
+check_passes false connection fault whole there is = by_number (connection == 0 || nat_lt 16 connection) refl is
+  where
+    by_zero : (z : Bool) → (connection == 0) ≡ z → (connection == 0 || nat_lt 16 connection) ≡ true → ⊥
+    by_zero true zero test = there (inl (grind (arith, nat_tests)))
+    by_zero false zero test = there (inr (grind (arith, nat_tests)))
+
+    by_number : (b : Bool) → (connection == 0 || nat_lt 16 connection) ≡ b → ◌≡◌ {A = Result ⊤ Fault} (if b then Err (Misuse Connection) else Ok tt) (Err fault) → ⊥
+    by_number true test e = by_zero (connection == 0) refl test
+    by_number false test e = absurd cc
 
 -- a statement that may be full
 pub for_any : {T : Type 0} (flag : Bool) (result : Result T Fault) (old new : ℕ × ℕ) → Causes result old new (IsTrue flag) → Causes result old new (IsTrue true)

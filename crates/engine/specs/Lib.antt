@@ -11,3 +11,4 @@ pub mod Promises
 pub mod Replies
 pub mod Representation
 pub mod Serving
+pub mod Looking

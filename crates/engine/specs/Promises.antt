@@ -3,12 +3,14 @@ use Rattle.std.specs.Prelude.{◌≡◌, ℕ, false, IsTrue, List, ◌++◌, Res
 use Rattle.disk.specs.File.{File, Version, IsLeft, IsMoment, IsSynced, versions}
 use Rattle.disk.specs.Replay as replay
 use Rattle.disk.specs.declared.device.Disk.{Ghosts}
+use Rattle.sql_syntax.specs.declared.statement.Statement.{Statement}
 use Rattle.catalog.specs.Database.{Database}
 use Rattle.wal.specs.Crashes.{HasNoChance}
 use Rattle.wal.specs.declared.log.Refused.{Refused}
 use Rattle.session.specs.Crashes.{MayShow, MayShowInRun}
 use Rattle.session.specs.Holding.{Hold, LeaveHeld}
 use Rattle.session.specs.Machine.{Machine, Reply, newest}
+use Rattle.session.specs.Representation.{StepsOver}
 use Rattle.engine.specs.Creating.{LeavesBlankOrCreated}
 use Rattle.engine.specs.EngineState.{db_disk, log_disk}
 use Rattle.engine.specs.Opening.{HoldsMeanwhile, IsOpenOf, LeavesOpened, Opens, db_left, log_left}
@@ -59,6 +61,11 @@ module _ {D : Type 0} {g : Ghosts D} where
   -- finds the newest database before or after the statement, or one that a failed commit has left in doubt.
   abbrev pub CrashKeepsCommits : Engine D g → Engine D g → Type 0
   CrashKeepsCommits old new = (m : Machine) (connection : ℕ) (text : List ℕ) (reply : Reply) (to : StepsByTextTo old m connection text reply new)
+      → IsTrueAtMoments (AreFoundAgain g (MayShow m to.next)) (g.file (db_disk old)) (g.file (log_disk old)) (g.file (db_disk new)) (g.file (log_disk new))
+
+  -- The same of a statement that was prepared, with values in its places.
+  abbrev pub CrashKeepsPrepared : Engine D g → Engine D g → Type 0
+  CrashKeepsPrepared old new = (m : Machine) (connection : ℕ) (bound : Statement) (reply : Reply) (to : StepsOver old.connections m connection bound reply new.connections)
       → IsTrueAtMoments (AreFoundAgain g (MayShow m to.next)) (g.file (db_disk old)) (g.file (log_disk old)) (g.file (db_disk new)) (g.file (log_disk new))
 
   -- The same of lines that were served, from the machine before the first to the one after the last.

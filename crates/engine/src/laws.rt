@@ -1,6 +1,6 @@
 //! Laws of what a crash leaves.
 
-ghost use Rattle.engine.specs.Promises.{CrashKeepsCommits, CrashKeepsRuns, HeldOnce, HoldsEarlier, OpeningKeeps, RepresentedFilesHold};
+ghost use Rattle.engine.specs.Promises.{CrashKeepsCommits, CrashKeepsPrepared, CrashKeepsRuns, HeldOnce, HoldsEarlier, OpeningKeeps, RepresentedFilesHold};
 
 use crate::opening::Engine;
 use db_pages::pages_store_one_database;
@@ -27,6 +27,11 @@ pub fn represented_files_hold<D: Disk + Drop>(_engine: &Engine<D>)
 /// Whenever a crash comes during a statement, opening what it leaves finds a database that was committed.
 pub fn crash_keeps_commits<D: Disk + Drop>(_old: &Engine<D>, _new: &Engine<D>)
     ensures { CrashKeepsCommits _old.now _new.now }
+{}
+
+/// Whenever a crash comes during a run of a prepared statement, opening what it leaves finds a database that was committed.
+pub fn crash_keeps_prepared<D: Disk + Drop>(_old: &Engine<D>, _new: &Engine<D>)
+    ensures { CrashKeepsPrepared _old.now _new.now }
 {}
 
 /// Whenever a crash comes while lines are served, opening what it leaves finds a database that was committed.

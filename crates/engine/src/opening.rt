@@ -23,7 +23,7 @@ ghost use Rattle.disk.specs.Calls.{Rose};
 ghost use Rattle.session.specs.Seats.{AreFresh, catalog_in};
 
 use crate::creating::is_blank;
-use crate::prepared::{Prepared, prepare};
+use crate::prepared::{Prepared, prepare, read_query};
 use catalog::Catalog;
 use db_header::Header;
 use db_load::load;
@@ -35,7 +35,7 @@ use session::{Connections, Seats};
 use sql_bound::bound;
 use sql_parser::{parse, release};
 use sqlval::limits::DATABASE_HEADER_LEN;
-use sqlval::{Fault, Feature, Misuse, R, Value};
+use sqlval::{Fault, Feature, Misuse, Name, R, Value};
 use std::alloc::Global;
 use wal::{Log, Refused, Synced, sync_both};
 use wal_frame::Salts;
@@ -153,7 +153,10 @@ impl<D: Disk + Drop> Engine<D> {
     ghost use Rattle.session.specs.Holding.{Hold, LeaveHeld};
     ghost use Rattle.engine.specs.Opening.{HoldsMeanwhile, IsOpenOf, IsOpenedFrom, IsRefusedOpen, db_left, log_left};
     ghost use Rattle.engine.specs.Serving.{GivesUp};
-    ghost use Rattle.engine.specs.Representation.{StepsByText};
+    ghost use Rattle.engine.specs.Looking.{LooksFrom, NamesByText};
+    ghost use Rattle.engine.specs.Representation.{StepsByText, files_in};
+    ghost use Rattle.session.specs.Limits.{may_be_full};
+    ghost use Rattle.session.specs.Looking.{TellsAllOf};
     ghost use Rattle.session.specs.Representation.{rows_reply};
     ghost use Rattle.engine.specs.Preparing.{IsPrepared, StepsBound, TakesValues, parameters_in, statement_in};
     ghost use Rattle.sql_grammar.specs.Texts.{IsStatementText};
@@ -268,6 +271,8 @@ impl<D: Disk + Drop> Engine<D> {
             → (length values.now ≡ parameters_in prepared.now → ⊥)
             → (result ≡ Err (Fault.Misuse Misuse.Count)) × (self.new ≡ self.old) }
         ensures counted { CountsFailures result self.old self.new }
+        // What only reads is never refused as `Full`.
+        ensures full { result ≡ Err Fault.Full → IsTrue (may_be_full (statement_in prepared.now)) }
         // The reply is a step of each machine that was represented, by the statement with these values in their places.
         ensures step { IsFalse (has_failed_of self.old) → (IsNoConnection connection → ⊥)
             → length values.now ≡ parameters_in prepared.now
@@ -283,6 +288,42 @@ impl<D: Disk + Drop> Engine<D> {
         let reply = self.connections.execute(connection, &statement);
         release(statement);
         reply
+    }
+
+    /// The rows of the schema table that a connection, 1 to 16, sees: of each table, index, view and trigger its kind, its name, that of its table
+    /// or view, the page where its tree begins (0 where it has none), and its text (NULL of an automatic index). No transaction takes a
+    /// snapshot by it. (`Memory`, `Io`.)
+    pub fn objects(&mut self, connection: u32) -> R<Rows>
+        ensures failed { IsTrue (has_failed_of self.old) → (result ≡ Err Fault.Failed)
+            × (self.new ≡ self.old) }
+        ensures numbered { IsFalse (has_failed_of self.old) → IsNoConnection connection
+            → (result ≡ Err (Fault.Misuse Misuse.Connection)) × (self.new ≡ self.old) }
+        ensures counted { CountsFailures result self.old self.new }
+        // Each row tells one object of the database that the connection sees, and each object is told by one.
+        ensures told { IsFalse (has_failed_of self.old) → (IsNoConnection connection → ⊥)
+            → LooksFrom (TellsAllOf result) self.old connection self.new }
+    {
+        self.connections.check(connection)?;
+        self.connections.objects(connection)
+    }
+
+    /// For each result of a query the name of its column, in small letters, on what a connection, 1 to 16, sees: that after AS, or a plain
+    /// column's; none of another expression. No file is read. (What `execute` refuses of the text or its names;
+    /// `Unsupported(StatementForm)` for another statement.)
+    pub fn columns(&mut self, connection: u32, text: &str) -> R<Vec<Option<Name>>>
+        ensures failed { IsTrue (has_failed_of self.old) → (result ≡ Err Fault.Failed)
+            × (self.new ≡ self.old) }
+        ensures numbered { IsFalse (has_failed_of self.old) → IsNoConnection connection
+            → (result ≡ Err (Fault.Misuse Misuse.Connection)) × (self.new ≡ self.old) }
+        ensures files { files_in self.new ≡ files_in self.old }
+        ensures told { IsFalse (has_failed_of self.old) → (IsNoConnection connection → ⊥)
+            → NamesByText text.now result self.old connection self.new }
+    {
+        self.connections.check(connection)?;
+        let query = read_query(self.alloc, text)?;
+        let names = self.connections.columns(connection, &query);
+        drop(query);
+        names
     }
 
     /// Whether a commit or a checkpoint has failed, so that the files must be opened again.

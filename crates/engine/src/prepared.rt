@@ -1,15 +1,16 @@
-//! Statements that are read once and run often, with values in their places.
+//! Statements that are read once and run often, with values in their places; and queries, of which more is asked than their rows.
 
 ghost use Rattle.std.specs.Prelude.{◌≡◌, ◌⊎◌, IfErr, IfOk};
 ghost use Rattle.sql_bound.specs.Greatest.{greatest_parameter};
 ghost use Rattle.sql_grammar.specs.Texts.{IsStatementText};
 ghost use Rattle.sql_parser.specs.Refusals.{IsTextRefusal};
+ghost use Rattle.engine.specs.Looking.{IsNoQuery, IsNoSelect};
 ghost use Rattle.engine.specs.Preparing.{IsPrepared, TakesValues, parameters_in, statement_in};
 ghost use Rattle.sql_syntax.specs.declared.statement.Statement.{Statement as Parsed};
 
 use sql_bound::parameter_count;
 use sql_parser::{parse, release};
-use sql_syntax::Statement;
+use sql_syntax::{Query, Statement};
 use sqlval::{Fault, Feature, R};
 use std::alloc::Global;
 
@@ -59,4 +60,28 @@ pub fn prepare(alloc: Global, text: &str) -> R<Prepared>
 {
     let statement = parse(alloc, text)?;
     kept(statement)
+}
+
+/// The query that a statement is. (`Unsupported(StatementForm)` for others.)
+fn query_of(statement: Statement) -> R<Query>
+    ensures is { IfOk result (λ query. statement ≡ Parsed.Select query) }
+    ensures refused { IfErr result (λ fault. (fault ≡ Fault.Unsupported Feature.StatementForm)
+        × IsNoSelect statement) }
+{
+    match statement {
+        Statement::Select(query) => Ok(query),
+        _ => {
+            release(statement);
+            Err(Fault::Unsupported(Feature::StatementForm))
+        }
+    }
+}
+
+/// Reads a query. (What `parse` refuses of the text; `Unsupported(StatementForm)` for other statements.)
+pub fn read_query(alloc: Global, text: &str) -> R<Query>
+    ensures is { IfOk result (λ query. IsStatementText text.now (Parsed.Select query)) }
+    ensures refused { IfErr result (IsNoQuery text.now) }
+{
+    let statement = parse(alloc, text)?;
+    query_of(statement)
 }

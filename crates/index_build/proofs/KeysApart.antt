@@ -1,13 +1,13 @@
 -- The entries of a UNIQUE index's tree are read from its beginning, and each is compared with the next one.
-use Rattle.std.proofs.Common.{◌≡◌, inl, ◌+◌, ◌-◌, ◌≤◌, ◌<◌, refl, sym, ap, subst, ◌∙◌, ℕ, zero, suc, Bool, true, false, ◌||◌, List, [], ◌∷◌, ◌++◌, length, map, drop, slice_index_or, IsTrue, Ok, Err, arith}
+use Rattle.std.proofs.Common.{◌≡◌, ◌+◌, ◌-◌, ◌≤◌, ◌<◌, refl, sym, ap, subst, ◌∙◌, ℕ, zero, suc, Bool, true, false, ◌||◌, List, [], ◌∷◌, ◌++◌, length, map, drop, slice_index_or, IsTrue, Ok, Err, arith}
 use mathlib.Core.Bool.{true≢false}
 use Rattle.std.proofs.lemmas.List.{append_assoc, append-nil, drop-map, map-append}
 use Rattle.std.specs.Prelude.{Result, MatchResult, ⊤, IfErr, IsErrAnd}
 use Rattle.sqlval.specs.Faults.{IsNotDiskFault, IsOutside}
 use Rattle.sqlval.specs.declared.collation.Collation.{Collation}
 use Rattle.sqlval.specs.declared.fault.Fault.{Fault}
-use Rattle.sqlval.specs.declared.fault.Fault.TheVariants.{Memory}
 use Rattle.sqlval.specs.declared.value.Value.{Value}
+use Rattle.record.specs.Columns.{HoldsValues, values_in}
 use Rattle.record.specs.Record.{IsRecord}
 use Rattle.pages.specs.Calls.{IsCause, Limits, Stays}
 use Rattle.pages.specs.Map.{AreWhole, PageMap}
@@ -21,9 +21,9 @@ use Rattle.catalog.specs.declared.tables.IndexColumn.{IndexColumn}
 use Rattle.index_entries.specs.Entries.{entries_of_rows}
 use Rattle.index_entries.specs.Keeping.{columns_in}
 use Rattle.index_build.specs.Calls.{SeesKeysApart}
-use Rattle.index_build.specs.Ranking.{any_beside, have_one_key}
-use Rattle.index_build.proofs.Comparing.{all_come, as_long, as_many, mapped_at, record_at}
-use Rattle.index_build.proofs.Neighbours.{IsPast, found_beside, none_beside, past_none, past_one}
+use Rattle.index_build.specs.Ranking.{any_beside, have_one_key, value_or_null}
+use Rattle.index_build.proofs.Comparing.{all_come, as_long, as_many, mapped_at}
+use Rattle.index_build.proofs.Neighbours.{IsPast, none_beside, past_none, past_one}
 use Rattle.index_build.proofs.OneKeys.{tells_clash}
 use Rattle.index_build.proofs.RowEntries.{collations_same}
 
@@ -61,69 +61,68 @@ last_decides test (x ∷ y ∷ xs) ys none =
 
 -- ---- records, each beside the next one
 
-abbrev read_as : Entry → Result Entry Fault
-read_as entry = Ok entry
+-- the values that lie in two records have one key without NULL
+abbrev pub share : List IndexColumn → List ℕ → List ℕ → Bool
+share columns a b = have_one_key 0 columns (values_in a) (values_in b)
 
-abbrev entry_in : Entry → Result Entry Fault → Entry
-entry_in d (Ok entry) = entry
-entry_in d (Err fault) = d
+-- The records before a place are compared. This one stands last there, and this is its first value.
+pub record HasCome (columns : List IndexColumn) (records : List (List ℕ)) (place : ℕ) (before : List ℕ) (first : Value) : Type 0 where
+  pub past : IsPast (share columns) records place
+  pub before_is : before ≡ slice_index_or records (place - 1) []
+  pub first_is : first ≡ value_or_null (values_in before) 0
 
--- the record at a place is that of the entry there
-pub record_there : {X : Type 0} (f : X → List ℕ) (records : List X) (place : ℕ) (d : X) (bytes : List ℕ) (given : List Entry) (e : Entry) → place < length records → bytes ≡ f (slice_index_or records place d)
-    → Pairwise IsRecord (map f records) given → IsRecord bytes (slice_index_or given place e)
-record_there f records place d bytes given e lt bytes_are are =
-    (let many = as_long f records in
-    subst (λ (b : List ℕ). IsRecord b (slice_index_or given place e)) (mapped_at f records place d lt ∙ sym bytes_are)
-    (record_at (map f records) given place [] e are (omega (arith, many, lt))))
+module _ {X : Type 0} (f : X → List ℕ) (columns : List IndexColumn) (records : List X) where
+  -- a record where it lies
+  pub lying_at : (place : ℕ) (d : X) (bytes : List ℕ) → place < length records → d ≡ slice_index_or records place d → bytes ≡ f d → bytes ≡ slice_index_or (map f records) place []
+  lying_at place d bytes lt d_is bytes_are = bytes_are ∙ ap f d_is ∙ sym (mapped_at f records place d lt)
 
--- The records before a place are compared, and the last of them is that of this entry.
-pub record HasCome (columns : List IndexColumn) (records : List (List ℕ)) (place : ℕ) (before : Entry) : Type 0 where
-  pub past : (given : List Entry) → Pairwise IsRecord records given → IsPast (have_one_key 0 columns) given place
-  pub last : (given : List Entry) → Pairwise IsRecord records given → (d : Entry) → slice_index_or given (place - 1) d ≡ before
-
--- there are no records
-pub none_come : (columns : List IndexColumn) (records : List (List ℕ)) (given : List Entry) → length records ≡ 0 → Pairwise IsRecord records given → false ≡ any_beside (have_one_key 0 columns) given
-none_come columns [] [] none are = refl
-none_come columns [] (entry ∷ given) none are = absurd are
-none_come columns (bytes ∷ records) given none are = absurd (omega (arith, none))
-
-module _ {X : Type 0} (f : X → List ℕ) (columns : List IndexColumn) (records : List X) (place : ℕ) (d : X) (bytes : List ℕ) (lt : place < length records) (bytes_are : bytes ≡ f (slice_index_or records place d))
-    (entry : Entry) (reads : (values : List Value) → IsRecord bytes values → read_as values ≡ read_as entry) where
-  is_it : (given : List Entry) → Pairwise IsRecord (map f records) given → (e : Entry) → slice_index_or given place e ≡ entry
-  is_it given are e = ap (entry_in []) (reads (slice_index_or given place e) (record_there f records place d bytes given e lt bytes_are are))
-
-  -- the first came
-  pub first_comes : place ≡ 0 → HasCome columns (map f records) 1 entry
-  first_comes first = record {
-    past = λ given are. past_none (have_one_key 0 columns) given;
-    last = λ given are e. ap (λ (n : ℕ). slice_index_or given n e) (sym first) ∙ is_it given are e;
+  pub first_comes : (d : X) (bytes : List ℕ) (first : Value) → 0 < length records → d ≡ slice_index_or records 0 d → bytes ≡ f d → first ≡ value_or_null (values_in bytes) 0 → HasCome columns (map f records) 1 bytes first
+  first_comes d bytes first lt d_is bytes_are first_is = record {
+    past = past_none (share columns) (map f records);
+    before_is = lying_at 0 d bytes lt d_is bytes_are;
+    first_is = first_is;
   }
 
-  module _ (before : Entry) (has : HasCome columns (map f records) place before) (found : Bool) (found_is : found ≡ have_one_key 0 columns before entry) where
-    answer : (given : List Entry) → Pairwise IsRecord (map f records) given → found ≡ have_one_key 0 columns (slice_index_or given (place - 1) []) (slice_index_or given place [])
-    answer given are =
-        found_is ∙ (ap (λ (e : Entry). have_one_key 0 columns e entry) (sym (has.last given are [])) ∙ ap (have_one_key 0 columns (slice_index_or given (place - 1) [])) (sym (is_it given are [])))
+  module _ (place : ℕ) (before : List ℕ) (first : Value) (has : HasCome columns (map f records) place before first) (lt : place < length records) (d : X) (d_is : d ≡ slice_index_or records place d) (bytes : List ℕ)
+      (bytes_are : bytes ≡ f d) (value : Value) (value_is : value ≡ value_or_null (values_in bytes) 0) (found : Bool) (found_is : found ≡ share columns before bytes) (other : found ≡ false) where
+    answer : found ≡ share columns (slice_index_or (map f records) (place - 1) []) (slice_index_or (map f records) place [])
+    answer = found_is ∙ ap (λ (l : List ℕ). share columns l bytes) has.before_is ∙ ap (share columns (slice_index_or (map f records) (place - 1) [])) (lying_at place d bytes lt d_is bytes_are)
 
-    long : (given : List Entry) → Pairwise IsRecord (map f records) given → place < length given
-    long given are = (let many = as_many (map f records) given are in let same = as_long f records in omega (arith, many, same, lt))
+    -- it has another key
+    pub next_comes : HasCome columns (map f records) (place + 1) bytes value
+    next_comes =
+        let here : place ≡ place + 1 - 1 = omega arith in
+        record {
+          past = past_one (share columns) (map f records) [] place has.past (let many = as_long f records in omega (arith, many, lt)) found answer other;
+          before_is = lying_at place d bytes lt d_is bytes_are ∙ ap (λ (n : ℕ). slice_index_or (map f records) n []) here;
+          first_is = value_is;
+        }
 
-    -- it has the key of the one before
-    pub two_found : found ≡ true → (given : List Entry) → Pairwise IsRecord (map f records) given → true ≡ any_beside (have_one_key 0 columns) given
-    two_found so given are = sym (found_beside (have_one_key 0 columns) given [] place (has.past given are) (long given are) found (answer given are) so)
+-- of records the entries decide
+pub entries_decide : (columns : List IndexColumn) → HoldsValues → (records : List (List ℕ)) (given : List Entry) → Pairwise IsRecord records given → any_beside (share columns) records ≡ any_beside (have_one_key 0 columns) given
+entries_decide columns hold [] [] are = refl
+entries_decide columns hold [] (entry ∷ given) are = absurd are
+entries_decide columns hold (bytes ∷ records) [] are = absurd are
+entries_decide columns hold (bytes ∷ []) (entry ∷ []) are = refl
+entries_decide columns hold (bytes ∷ []) (entry ∷ other ∷ given) are = absurd are.1
+entries_decide columns hold (bytes ∷ more ∷ records) (entry ∷ []) are = absurd are.1
+entries_decide columns hold (bytes ∷ more ∷ records) (entry ∷ other ∷ given) are =
+    ap (λ (v : List Value). have_one_key 0 columns v (values_in more) || any_beside (share columns) (more ∷ records)) (hold bytes entry are.0)
+    ∙ ap (λ (v : List Value). have_one_key 0 columns entry v || any_beside (share columns) (more ∷ records)) (hold more other are.1.0)
+    ∙ ap (λ (b : Bool). have_one_key 0 columns entry other || b) (entries_decide columns hold (more ∷ records) (other ∷ given) are.1)
 
-    -- it has another
-    pub next_comes : found ≡ false → HasCome columns (map f records) (place + 1) entry
-    next_comes other = record {
-      past = λ given are. past_one (have_one_key 0 columns) given [] place (has.past given are) (long given are) found (answer given are) other;
-      last = λ given are e. (let same : place + 1 - 1 ≡ place = omega arith in ap (λ (n : ℕ). slice_index_or given n e) same ∙ is_it given are e);
-    }
+-- where no two neighbours of records share a key, no two of their entries do
+pub all_apart : {X : Type 0} (f : X → List ℕ) (columns : List IndexColumn) (records : List X) (place : ℕ) (before : List ℕ) (first : Value) → HoldsValues → HasCome columns (map f records) place before first → length records ≤ place
+    → (given : List Entry) → Pairwise IsRecord (map f records) given → any_beside (have_one_key 0 columns) given ≡ false
+all_apart f columns records place before first hold has le given are =
+    (let many = as_long f records in
+    sym (entries_decide columns hold (map f records) given are) ∙ none_beside (share columns) (map f records) place has.past (omega (arith, many, le)))
 
--- all came
-pub all_come_apart : (columns : List IndexColumn) (records : List (List ℕ)) (place : ℕ) (before : Entry) → HasCome columns records place before → length records ≤ place → (given : List Entry) → Pairwise IsRecord records given
-    → false ≡ any_beside (have_one_key 0 columns) given
-all_come_apart columns records place before has le given are =
-    (let many = as_many records given are in
-    sym (none_beside (have_one_key 0 columns) given place (has.past given are) (omega (arith, many, le))))
+-- there are no records
+pub none_apart : (columns : List IndexColumn) (records : List (List ℕ)) (given : List Entry) → length records ≡ 0 → Pairwise IsRecord records given → any_beside (have_one_key 0 columns) given ≡ false
+none_apart columns [] [] none are = refl
+none_apart columns [] (entry ∷ given) none are = absurd are
+none_apart columns (bytes ∷ records) given none are = absurd (omega (arith, none))
 
 -- ---- batch by batch
 
@@ -243,21 +242,14 @@ module _ {P K : Type 0} (below : P → K) (tells : K → Bool) (limits : K → L
             same = ap (any_beside (have_one_key 0 columns)) (append_assoc on.given batch_is.0 later ∙ ap (λ (l : List Entry). on.given ++ l) (sym batch_is.2)) ∙ on.same;
           })
 
-      -- the records aren't compared
-      pub records_unread : (fault : Fault) (result : Result Bool Fault) → ((given : List Entry) → Pairwise IsRecord seen given → fault ≡ Memory) → IsErrAnd result (λ e. e ≡ fault)
-          → IsTrue (tells (below old)) → SeesApart (pages old) (limits (below old)).page root columns under result
-      records_unread fault (Ok apart) short same told = absurd same
-      records_unread fault (Err e) short same told = λ there used whole tree.
-          (let on = goes told there used whole tree in inl (same ∙ short on.given on.are))
-
-      module _ (found : Bool) (tell : (given : List Entry) → Pairwise IsRecord seen given → found ≡ any_beside (have_one_key 0 columns) given) (none : found ≡ false) where
+      module _ (tell : (given : List Entry) → Pairwise IsRecord seen given → any_beside (have_one_key 0 columns) given ≡ false) where
         -- nothing comes later
         pub ends_apart : ended_then ≡ true → IsTrue (tells (below old)) → SeesApart (pages old) (limits (below old)).page root columns under (Ok true)
         ends_apart ends told there used whole tree so =
             (let on = goes told there used whole tree in
             let all : on.given ++ coming ended_then after_then under key_then there ≡ on.given =
             ap (λ (b : Bool). on.given ++ coming b after_then under key_then there) ends ∙ append-nil on.given in
-            sym on.same ∙ (ap (any_beside (have_one_key 0 columns)) all ∙ (sym (tell on.given on.are) ∙ none)))
+            sym on.same ∙ (ap (any_beside (have_one_key 0 columns)) all ∙ tell on.given on.are))
 
         -- the last of them stays
         pub goes_on : (new : P) (new_root : ℕ) (last : List (List ℕ)) → new_root ≡ at_root → Stays below pages count failures unrefused old new → last ≡ drop (length seen - 1) seen
@@ -274,6 +266,6 @@ module _ {P K : Type 0} (below : P → K) (tells : K → Bool) (limits : K → L
                 are =
                     subst (λ (l : List (List ℕ)). Pairwise IsRecord l (drop (length on.given - 1) on.given)) (sym (last_is ∙ ap (λ (n : ℕ). drop (n - 1) seen) many))
                     (pairs_left IsRecord (length on.given - 1) seen on.given on.are);
-                same = last_decides (have_one_key 0 columns) on.given later (sym (tell on.given on.are) ∙ none) ∙ on.same;
+                same = last_decides (have_one_key 0 columns) on.given later (tell on.given on.are) ∙ on.same;
               });
         }

@@ -159,7 +159,8 @@ value_is [] place = refl
 value_is (v ∷ vs) zero = refl
 value_is (v ∷ vs) (suc place) = value_is vs place
 
-at_clash : (c : Collation) (v w x y : Value) → v ≡ x → w ≡ y → not (is_null v) && is_eq (order c v w) ≡ not (is_null x) && is_eq (order c x y)
+-- two values are equal, and not NULL, as the values that they are
+pub at_clash : (c : Collation) (v w x y : Value) → v ≡ x → w ≡ y → not (is_null v) && is_eq (order c v w) ≡ not (is_null x) && is_eq (order c x y)
 at_clash c v w x y e f = ap (λ (u : Value). not (is_null u) && is_eq (order c u w)) e ∙ ap (λ (u : Value). not (is_null x) && is_eq (order c x u)) f
 
 pub parted : (n e m f : Bool) → (not n && e) && (not m && f) ≡ not (n || m) && (e && f)

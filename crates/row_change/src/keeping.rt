@@ -28,6 +28,7 @@ use query_terms::{Datum, Env, SourceRow, Term, evaluate};
 use record::encode_fields;
 use sqlval::{Affinity, Fault, Field, Many, R};
 use std::alloc::Global;
+use std::array::from_ref;
 use tree_table::{RowChange, change_rows};
 
 /// Whether SET names a column of the index.
@@ -160,15 +161,20 @@ fn change_to(
     Ok(Some(RowChange { rowid, payload }))
 }
 
-/// The values of SET's expressions. (What they refuse, in order.)
-fn values_given<'a>(alloc: Global, sets: &'a [(usize, Term)], env: Env<'a>) -> R<Vec<Datum<'a>>>
-    ensures { IfOk result (λ given. values (seen env.entry) (map (λ set. set.1) sets.now) ≡ Ok (map datum given.items)) }
+/// Puts the values of SET's expressions in place of those that are given. (What the expressions refuse, in order.)
+fn give_values<'a>(
+    alloc: Global,
+    sets: &'a [(usize, Term)],
+    env: Env<'a>,
+    given: &mut Vec<Datum<'a>>,
+) -> R<()>
+    ensures { OnOk result (values (seen env.entry) (map (λ set. set.1) sets.now) ≡ Ok (map datum given.new.items)) }
 {
-    let mut given = Vec::with_capacity(alloc, sets.len())?;
+    given.clear();
     'sets: for (_, term) in sets {
         given.push(evaluate(alloc, term, env)?)?;
     }
-    Ok(given)
+    Ok(())
 }
 
 /// Puts a value at its place, if there is one.
@@ -191,26 +197,27 @@ fn put_given<'a>(fields: &mut Vec<Field<'a>>, sets: &[(usize, Term)], given: &'a
     }
 }
 
-/// The change of the row at a place, where it is kept. (What SET's expressions refuse; `Memory`.)
-fn kept_change(
+/// The change of the row at a place, where it is kept. `given` is memory for the values of SET. (What SET's expressions refuse; `Memory`.)
+fn kept_change<'a>(
     alloc: Global,
     table: &Table,
-    sets: &[(usize, Term)],
-    rows: &Many<SourceRow>,
-    place: usize,
+    sets: &'a [(usize, Term)],
+    rows: &'a Many<SourceRow>,
+    place: &'a usize,
+    given: &mut Vec<Datum<'a>>,
 ) -> R<Option<RowChange>>
     requires free { length table.now.checks ≡ 0 }
     requires apart { law.names_key table.now sets.now ≡ false }
-    ensures { IfOk result (λ found. IfSome found (IsKeptBy table.now sets.now (row_at rows.now place))) }
+    ensures { IfOk result (λ found. IfSome found (IsKeptBy table.now sets.now (row_at rows.now place.now))) }
 {
-    let Some(row) = rows.as_slice().get(place) else {
+    let Some(row) = rows.as_slice().get(*place) else {
         return Ok(None);
     };
-    let picked = [place];
-    let given = values_given(alloc, sets, env_at(rows, picked.as_slice()))?;
+    let env = env_at(rows, from_ref(place).as_slice());
+    give_values(alloc, sets, env, given)?;
     let mut fields = row.fields(alloc)?;
     put_given(&mut fields, sets, given.as_slice());
-    change_to(alloc, table, rowid_at(rows, place), &mut fields)
+    change_to(alloc, table, rowid_at(rows, *place), &mut fields)
 }
 
 /// The changes of the rows at these places, where each is kept. (What SET's expressions refuse; `Memory`.)
@@ -227,8 +234,9 @@ fn changes_at(
         Pairwise (IsKeptBy table.now sets.now) (map (row_at rows.now) places.now) changes.items)) }
 {
     let mut changes = Vec::with_capacity(alloc, places.len())?;
+    let mut given = Vec::with_capacity(alloc, sets.len())?;
     'places: for place in places {
-        let Some(change) = kept_change(alloc, table, sets, rows, *place)? else {
+        let Some(change) = kept_change(alloc, table, sets, rows, place, &mut given)? else {
             return Ok(None);
         };
         changes.push(change)?;

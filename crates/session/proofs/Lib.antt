@@ -48,3 +48,4 @@ pub mod Switching
 pub mod FirstRefusals
 mod OtherForms
 mod Turning
+pub mod LookingOnly

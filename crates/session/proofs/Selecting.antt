@@ -20,7 +20,8 @@ use Rattle.pager.specs.Views.{View, newest_view, view_at}
 use Rattle.session.specs.TooLong.{StepOrTooLong}
 use Rattle.session.specs.Holding.{HoldThroughout}
 use Rattle.session.specs.ConnectionState.{files_of}
-use Rattle.session.specs.Machine.{Machine, Idle, NoSnapshot, Reads, Writes, Rows, Refused, committed, last_place, newest, with_connection}
+use Rattle.session.specs.Looking.{database_seen}
+use Rattle.session.specs.Machine.{Machine, Idle, NoSnapshot, Reads, Writes, Rows, Refused, committed, connection, last_place, newest, with_connection}
 use Rattle.session.specs.Outcomes.{answered, given, left_by, outcome}
 use Rattle.executor.specs.Works.{read_on}
 use Rattle.session.specs.Steps.{Allowed, Instead}
@@ -73,6 +74,7 @@ module _ {D : Type 0} {g : Ghosts D} where
   -- the database that the present connection reads, and where a query leaves the machine
   pub record Sees (c : Connections D g) (m : Machine) : Type 0 where
     pub db : Database
+    pub db_is : db ≡ database_seen m (connection m c.connection)
     pub stored : ShowsDatabase (seen_in c.transaction (files_of c)) (current_in c.catalog) db
     pub next : Machine
     pub is : (q : Query) → outcome m c.connection (statement.Select q) ≡ given next (read_on db q)
@@ -85,18 +87,21 @@ module _ {D : Type 0} {g : Ghosts D} where
       → IsTransaction (files_of c) c.catalog m.history t shown.present → Sees c m
   sees_by c m shown transaction.Idle is base first = record {
     db = newest m;
+    db_is = sym (ap (database_seen m) (shown.is ∙ first.0));
     stored = subst (λ (t : Transaction). ShowsDatabase (seen_in t (files_of c)) (current_in c.catalog) (newest m)) (sym is) (newest_current c m shown (base refl) first.1);
     next = m;
     is = λ q. select_outcome q m c.connection Idle (shown.is ∙ first.0);
   }
   sees_by c m shown transaction.Begun is base first = record {
     db = newest m;
+    db_is = sym (ap (database_seen m) (shown.is ∙ first.is));
     stored = subst (λ (t : Transaction). ShowsDatabase (seen_in t (files_of c)) (current_in c.catalog) (newest m)) (sym is) (newest_current c m shown (base refl) first.all);
     next = with_connection m c.connection (in_transaction c.catalog first.points (Reads (last_place m)));
     is = λ q. select_outcome q m c.connection (in_transaction c.catalog first.points NoSnapshot) (shown.is ∙ first.is);
   }
   sees_by c m shown (transaction.Reading s) is base first = record {
     db = committed m first.0;
+    db_is = sym (ap (database_seen m) (shown.is ∙ first.1.is));
     stored = subst (λ (t : Transaction). ShowsDatabase (seen_in t (files_of c)) (current_in c.catalog) (committed m first.0)) (sym is)
         (subst (λ (ts : Listed). ShowsDatabase (view_at (files_of c) s) ts (committed m first.0)) (sym first.1.all) first.2.shows);
     next = m;
@@ -104,6 +109,7 @@ module _ {D : Type 0} {g : Ghosts D} where
   }
   sees_by c m shown (transaction.Writing w) is base first = record {
     db = first.db;
+    db_is = sym (ap (database_seen m) (shown.is ∙ first.is));
     stored = subst (λ (t : Transaction). ShowsDatabase (seen_in t (files_of c)) (current_in c.catalog) first.db) (sym is) first.stored;
     next = m;
     is = λ q. select_outcome q m c.connection (in_transaction c.catalog first.points (Writes (last_place m) first.db)) (shown.is ∙ first.is);

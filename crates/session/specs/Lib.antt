@@ -24,3 +24,4 @@ pub mod Failing
 pub mod WellFormed
 pub mod Meaning
 pub mod Calls
+pub mod Looking

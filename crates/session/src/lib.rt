@@ -8,6 +8,7 @@ mod checkpoints;
 mod commits;
 mod endings;
 mod laws;
+mod looking;
 mod marks;
 mod points;
 mod queries;

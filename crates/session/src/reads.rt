@@ -1,4 +1,4 @@
-//! The reading of queries: on a snapshot, or with the changes of a writer.
+//! The reading of queries, and of the schema: on a snapshot, or with the changes of a writer.
 
 ghost use Rattle.std.specs.Prelude.{◌≡◌, ◌≤◌, map, false};
 ghost use Rattle.catalog.specs.Database.{Database};
@@ -9,6 +9,7 @@ ghost use Rattle.wal.specs.LogState.{state_of, seen_by};
 ghost use Rattle.executor.specs.Reading.{AnswersRead};
 ghost use Rattle.executor.specs.Works.{read_on};
 ghost use Rattle.session.specs.ConnectionState.{HasCause};
+ghost use Rattle.session.specs.Looking.{TellsAllOf};
 ghost use Rattle.session.specs.Reading.{IsSightOf, view_by};
 ghost use Rattle.session.specs.Representation.{ShowTheSame};
 ghost use Rattle.session.specs.Writers.{IsWriter};
@@ -16,6 +17,7 @@ ghost use Rattle.session.specs.Stored.{ShowsDatabase};
 
 use catalog::Catalog;
 use disk::Disk;
+use executor_schema::schema_rows;
 use pager::{Reading, Viewing, Writer};
 use row_scan::Rows;
 use sql_syntax::Query;
@@ -77,6 +79,69 @@ fn read_changes<D: Disk + Drop>(
         place: None,
     };
     executor::read(alloc, &mut pages, catalog, query)
+}
+
+/// The rows of the schema table on a snapshot.
+fn read_schema_of_snapshot<D: Disk + Drop>(
+    alloc: Global,
+    log: &mut Log<D>,
+    buffer: &mut Vec<u8>,
+    snapshot: Snapshot,
+) -> R<Rows>
+    ensures cause { HasCause false result log.old log.new }
+    ensures same { Tells log.old → ShowTheSame log.old log.new }
+    ensures told { (tables : Listed) (db : Database) → Tells log.old
+        → seen_by snapshot ≤ (state_of log.old).frames
+        → ShowsDatabase (view_at log.old snapshot) tables db
+        → TellsAllOf result db }
+{
+    let mut pages = Reading {
+        log,
+        snapshot,
+        buffer,
+    };
+    schema_rows(alloc, &mut pages)
+}
+
+/// The rows of the schema table as a writer sees them.
+fn read_schema_of_changes<D: Disk + Drop>(
+    alloc: Global,
+    log: &mut Log<D>,
+    buffer: &mut Vec<u8>,
+    writer: &Writer,
+) -> R<Rows>
+    ensures cause { HasCause false result log.old log.new }
+    ensures same { Tells log.old → ShowTheSame log.old log.new }
+    ensures told { (tables : Listed) (db : Database) → Tells log.old → IsWriter log.old writer.now
+        → ShowsDatabase (view_of log.old writer.now) tables db
+        → TellsAllOf result db }
+{
+    let mut pages = Viewing {
+        log,
+        writer,
+        buffer,
+        place: None,
+    };
+    schema_rows(alloc, &mut pages)
+}
+
+/// The rows of the schema table.
+pub fn read_schema<D: Disk + Drop>(
+    alloc: Global,
+    log: &mut Log<D>,
+    buffer: &mut Vec<u8>,
+    sight: Sight<'_>,
+) -> R<Rows>
+    ensures cause { HasCause false result log.old log.new }
+    ensures same { Tells log.old → ShowTheSame log.old log.new }
+    ensures told { (tables : Listed) (db : Database) → Tells log.old → IsSightOf log.old sight.entry
+        → ShowsDatabase (view_by log.old sight.entry) tables db
+        → TellsAllOf result db }
+{
+    match sight {
+        Sight::Snapshot(snapshot) => read_schema_of_snapshot(alloc, log, buffer, snapshot),
+        Sight::Writer(writer) => read_schema_of_changes(alloc, log, buffer, writer),
+    }
 }
 
 /// The rows of a query.

@@ -17,21 +17,26 @@ use Rattle.sqlval.specs.declared.value.Value.{Value}
 use Rattle.std.specs.Global.{Vec}
 use Rattle.record.specs.Record.{IsRecord}
 use Rattle.pages.specs.Calls.{Limits, Stays}
-use Rattle.pages.specs.Map.{PageMap, AreWhole}
+use Rattle.pages.specs.Counting.{start_of}
+use Rattle.pages.specs.Map.{PageMap, AreWhole, page_at}
 use Rattle.tree_overflow.proofs.ReadChains.{stays_after, stays_done}
 use Rattle.tree_page.specs.Cells.{Pairwise}
-use Rattle.tree_page.specs.Node.{Local, Node}
+use Rattle.tree_page.specs.Node.{Local, Node, IsNode, code_of}
+use Rattle.tree_page.specs.Reading.{Place, type_of}
+use Rattle.tree_page.specs.declared.items.Kind.{Kind}
+use Rattle.tree_page.specs.declared.items.Kind.TheVariants.{IndexLeaf}
+use Rattle.tree_page.specs.Payload.{index_most}
 use Rattle.tree_pack.proofs.Splices.{pairwise_append}
 use Rattle.tree_store.specs.Sides.{children, each_of}
-use Rattle.tree_index.specs.Comparing.{HasEntries, ComeFirst, FindsChild, FindsPlace, CountsEntries, front_count, is_before, child_of, child_at}
+use Rattle.tree_index.specs.Comparing.{HasEntries, ComeFirst, locals_of, FindsChild, FindsPlace, CountsEntries, front_count, is_before, child_of, child_at}
 use Rattle.tree_index.specs.Entries.{Entry, AreEntries, entries_from, entry_cmp, is_passed}
-use Rattle.tree_index.specs.Scanning.{coming, AreAll, IsBatch, GivesBelow, PushesEntry, CopiesEntries}
+use Rattle.tree_index.specs.Scanning.{coming, AreAll, IsBatch, GivesBelow, PushesEntry, PushesLying, AreCopied, CopiesEntries, CopiesFirst, CopiesLying}
 use Rattle.tree_index.specs.Tree.{Held, IsHeldAs, Tree, top, entries_of, Lies, IsIndexTree}
 use Rattle.tree_index.proofs.Comparisons.{value_at}
 use Rattle.tree_index.proofs.Cutting.{values}
 use Rattle.tree_index.proofs.Inserts.{entries_part, turn}
 use Rattle.tree_index.proofs.Orders.{not_less, greater_first, not_less_first, before_one, after_one, first_right}
-use Rattle.tree_index.proofs.Readings.{since}
+use Rattle.tree_index.proofs.Readings.{at_leaf, on_page, refused, says_it, since}
 use Rattle.tree_index.specs.Joining.{tree_at, left_at, right_at}
 use Rattle.tree_index.proofs.Rows.{row_split, child_there, holds_at, keys_first}
 use Rattle.tree_index.proofs.Subtrees.{entries_at, entries_between, told}
@@ -82,6 +87,60 @@ stays_passed below map' count failures fault (Err e) a b stays is = record {
   causes = record { db = stays.causes.db; log = stays.causes.log; why = record { io = λ io. stays.causes.why.io (sym is ∙ io); full = λ full. stays.causes.why.full (sym is ∙ full) } };
 }
 
+-- ---- the entries of a leaf, as far as they lie whole there
+
+-- The records of entries from a place up to another were put after those before, up to here.
+pub record IsCopying (page : Place) (most from upto at : ℕ) (before batch : List (List ℕ)) : Type 0 where
+  pub reached : from ≤ at
+  pub copied : CopiesLying page most from upto before batch (Ok at)
+
+pub copying_starts : (page : Place) (most from upto : ℕ) (before : List (List ℕ)) → IsCopying page most from upto from before before
+copying_starts page most from upto before = record { reached = omega arith; copied = λ pages size said entries most_is is held within. refl }
+
+module _ (page : Place) (most from upto at : ℕ) (before batch more : List (List ℕ)) (has : IsCopying page most from upto at before batch) (lt : at < upto) where
+  room : (entries : List Held) → (from < upto → upto ≤ length entries) → at < length entries
+  room entries within = (let low = has.reached in let all = within (omega (arith, low, lt)) in omega (arith, lt, all))
+
+  -- the next one isn't pushed
+  pub not_copied : (fault : Fault) (result : Result ℕ Fault) → IsErrAnd result (λ e. e ≡ fault) → PushesLying page most at batch more (Err fault) → CopiesLying page most from upto before more result
+  not_copied fault result passed says pages size said entries most_is is held within = refused _ _ fault passed (says pages size said entries nothing most_is is held (room entries within))
+
+  -- it doesn't lie whole there
+  pub copied_so_far : PushesLying page most at batch more (Ok false) → CopiesLying page most from upto before more (Ok at)
+  copied_so_far says pages size said entries most_is is held within =
+      has.copied pages size said entries most_is is held within
+      ∙ ap (λ (b : List (List ℕ)). b ++ records (take (upto - at) (drop at entries))) (sym (says pages size said entries nothing most_is is held (room entries within)))
+
+  -- it does
+  pub one_copied : PushesLying page most at batch more (Ok true) → IsCopying page most from upto (at + 1) before more
+  one_copied says = record {
+    reached = (let low = has.reached in omega (arith, low));
+    copied = λ pages size said entries most_is is held within.
+        (let here = room entries within in
+        let pushed = says pages size said entries nothing most_is is held here in
+        let next : at + 1 ≡ suc at = omega arith in
+        let left = upto - (at + 1) in
+        let one : upto - at ≡ suc left = omega (arith, lt) in
+        let rest : List (List ℕ) = records (take left (drop (suc at) entries)) in
+        has.copied pages size said entries most_is is held within ∙ ap (λ (n : ℕ). batch ++ records (take n (drop at entries))) one
+        ∙ ap (λ (hs : List Held). batch ++ records (take (suc left) hs)) (value_at entries at nothing here)
+        ∙ sym (append_assoc batch ((slice_index_or entries at nothing).payload ∷ []) rest)
+        ∙ ap (λ (b : List (List ℕ)). b ++ rest) (sym pushed) ∙ ap (λ (n : ℕ). more ++ records (take left (drop n entries))) (sym next));
+  }
+
+-- a page that is a leaf has its entries there
+pub copied_of_leaf : (page : Place) (bytes : List ℕ) (number start most from upto : ℕ) (kind : Kind) (before after : List (List ℕ)) (result : Result ℕ Fault) → page ≡ record { bytes = bytes; start = start } → start ≡ start_of number
+    → kind ≡ IndexLeaf → ((node : Node) → IsNode page.bytes page.start node → type_of kind ≡ code_of node) → CopiesLying page most from upto before after result
+    → (pages : PageMap) (size : ℕ) → bytes ≡ page_at pages number → most ≡ index_most size → CopiesFirst pages size number from upto before after result
+copied_of_leaf page bytes number start most from upto kind before after result page_is start_is leaf kinds copies pages size bytes_are most_is node entries has within =
+    (let it = on_page page bytes (start_of number) start node page_is start_is (says_it pages number bytes node has.says bytes_are) in
+    at_leaf node kind (λ n. IsNode page.bytes page.start n → Pairwise (IsHeldAs pages size) (locals_of n) entries → MatchResult result (AreCopied entries from upto before after) IsOutside) has.ours (kinds node it) leaf
+    (λ said same is held. copies pages size said entries most_is is held within) it has.held)
+
+-- so many from a place on are there
+pub all_there : (place most len upto : ℕ) → upto ≡ min most (len - place) → place < place + upto → place + upto ≤ len
+all_there place most len upto is lt = omega (arith, is, lt)
+
 -- ---- the entries of a page, one after the other
 
 module _ {P K : Type 0} (below : P → K) (tells : K → Bool) (limits : K → Limits) (map' : P → PageMap) (count : P → ℕ) (failures : P → ℕ × ℕ) where
@@ -92,11 +151,15 @@ module _ {P K : Type 0} (below : P → K) (tells : K → Bool) (limits : K → L
     pub copied : IsTrue (tells (below old)) → (node : Node) (entries : List Held) → AreWhole (limits (below old)).page (map' old) → HasEntries (map' old) (limits (below old)).page number node entries
         → before ++ records (take upto (drop place entries)) ≡ batch ++ records (take (place + upto - at) (drop at entries))
 
-  pub starts : (old now : P) (number place upto len : ℕ) (before : List (List ℕ)) → Stays below map' count failures {T = ℕ} (Ok len) old now → HasCopied old now number place upto place before before
-  starts old now number place upto len before stays = record {
-    from = omega arith;
-    stays = stays_done {S = ℕ} below map' count failures (Ok len) old now stays;
-    copied = λ told node entries whole has. (let same : upto ≡ place + upto - place = omega arith in ap (λ (n : ℕ). before ++ records (take n (drop place entries))) same);
+  pub starts : (old mid now : P) (number place upto at len : ℕ) (before batch : List (List ℕ)) → Stays below map' count failures {T = ℕ} (Ok len) old mid → Stays below map' count failures {T = ⊤} (Ok tt) mid now → place ≤ at
+      → (IsTrue (tells (below old)) → (node : Node) (entries : List Held) → AreWhole (limits (below old)).page (map' old) → HasEntries (map' old) (limits (below old)).page number node entries
+      → before ++ records (take (place + upto - place) (drop place entries)) ≡ batch ++ records (take (place + upto - at) (drop at entries)))
+      → HasCopied old now number place upto at before batch
+  starts old mid now number place upto at len before batch counted loaded reached copied = record {
+    from = reached;
+    stays = stays_after below map' count failures (Ok tt) (Ok tt) old mid now (stays_done {S = ℕ} below map' count failures (Ok len) old mid counted) loaded;
+    copied = λ told node entries whole has.
+        (let same : upto ≡ place + upto - place = omega arith in ap (λ (n : ℕ). before ++ records (take n (drop place entries))) same ∙ copied told node entries whole has);
   }
 
   pushes : (old mid : P) (number at : ℕ) (before batch : List (List ℕ)) (result : Result ⊤ Fault) → below mid ≡ below old → map' mid ≡ map' old

@@ -1,5 +1,5 @@
 -- Reading an index's entries in order.
-use Rattle.std.specs.Prelude.{◌≡◌, ◌≤◌, ◌<◌, ℕ, Bool, true, false, List, [], ◌∷◌, ◌++◌, ◌+◌, length, map, take, drop, slice_index_or, if◌then◌else◌, ⊤, Result, MatchResult}
+use Rattle.std.specs.Prelude.{◌≡◌, ◌≤◌, ◌<◌, ℕ, Bool, true, false, List, [], ◌∷◌, ◌++◌, ◌+◌, ◌-◌, length, map, take, drop, slice_index_or, if◌then◌else◌, ⊤, Result, MatchResult}
 use Rattle.sqlval.specs.Faults.{IsOutside}
 use Rattle.sqlval.specs.declared.collation.Collation.{Collation}
 use Rattle.sqlval.specs.declared.fault.Fault.{Fault}
@@ -7,10 +7,12 @@ use Rattle.sqlval.specs.declared.value.Value.{Value}
 use Rattle.record.specs.Record.{IsRecord}
 use Rattle.pages.specs.Map.{PageMap, AreWhole}
 use Rattle.tree_page.specs.Cells.{Pairwise}
-use Rattle.tree_page.specs.Node.{Node}
+use Rattle.tree_page.specs.Node.{Entries, IsNode, Local, Node}
+use Rattle.tree_page.specs.Payload.{index_most}
+use Rattle.tree_page.specs.Reading.{Place}
 use Rattle.tree_index.specs.Comparing.{HasEntries}
 use Rattle.tree_index.specs.Entries.{Entry, AreEntries, entries_from}
-use Rattle.tree_index.specs.Tree.{Held, Tree, top, entries_of, Lies, IsIndexTree}
+use Rattle.tree_index.specs.Tree.{Held, IsHeldAs, Tree, top, entries_of, Lies, IsIndexTree}
 
 -- the entries that come from a cursor's place on: none at the end
 abbrev pub coming : Bool → Bool → List Collation → List Value → List Entry → List Entry
@@ -36,6 +38,30 @@ abbrev pub PushesEntry : PageMap → ℕ → ℕ → ℕ → List (List ℕ) →
 PushesEntry pages size number place before after result = (node : Node) (entries : List Held) (d : Held) → AreWhole size pages
     → HasEntries pages size number node entries → place < length entries
     → MatchResult result (λ done. after ≡ before ++ (slice_index_or entries place d).payload ∷ []) IsOutside
+
+-- Of a leaf, the record of the entry at a place is one more of these records, if it lies whole in its cell; else they stay. Or memory was short, or
+-- a disk's call failed.
+abbrev pub PushesLying : Place → ℕ → ℕ → List (List ℕ) → List (List ℕ) → Result Bool Fault → Type 0
+PushesLying page most place before after result = (pages : PageMap) (size : ℕ) (said : List Local) (entries : List Held) (d : Held) → most ≡ index_most size
+    → IsNode page.bytes page.start (Entries said) → Pairwise (IsHeldAs pages size) said entries → place < length entries
+    → MatchResult result (λ whole. after ≡ (if whole then before ++ (slice_index_or entries place d).payload ∷ [] else before)) IsOutside
+
+-- these records and those of the entries from a place up to another are those and the ones from a third place on
+abbrev pub AreCopied : List Held → ℕ → ℕ → List (List ℕ) → List (List ℕ) → ℕ → Type 0
+AreCopied entries from upto before after at =
+    before ++ map (λ held. held.payload) (take (upto - from) (drop from entries)) ≡ after ++ map (λ held. held.payload) (take (upto - at) (drop at entries))
+
+-- Of a leaf, the records of the entries from a place up to another, where there are as many, are put after these up to the place that is answered;
+-- or memory was short, or a disk's call failed.
+abbrev pub CopiesLying : Place → ℕ → ℕ → ℕ → List (List ℕ) → List (List ℕ) → Result ℕ Fault → Type 0
+CopiesLying page most from upto before after result = (pages : PageMap) (size : ℕ) (said : List Local) (entries : List Held) → most ≡ index_most size
+    → IsNode page.bytes page.start (Entries said) → Pairwise (IsHeldAs pages size) said entries → (from < upto → upto ≤ length entries)
+    → MatchResult result (AreCopied entries from upto before after) IsOutside
+
+-- the same of the page of a number that says entries
+abbrev pub CopiesFirst : PageMap → ℕ → ℕ → ℕ → ℕ → List (List ℕ) → List (List ℕ) → Result ℕ Fault → Type 0
+CopiesFirst pages size number from upto before after result = (node : Node) (entries : List Held) → HasEntries pages size number node entries
+    → (from < upto → upto ≤ length entries) → MatchResult result (AreCopied entries from upto before after) IsOutside
 
 -- up to so many of these from a place on are all
 abbrev pub AreAll : ℕ → ℕ → ℕ → Bool → Type 0

@@ -1,15 +1,17 @@
 //! Reading an index's entries in order.
 
-ghost use Rattle.std.specs.Prelude.{◌≡◌, ◌++◌, ◌∷◌, [], List, ℕ, length, map, true, false, IsTrue, IfOk, IfErr, slice_index_or};
+ghost use Rattle.std.specs.Prelude.{◌≡◌, ◌≤◌, ◌++◌, ◌∷◌, [], List, ℕ, length, map, true, false, IsTrue, IfOk, IfErr, slice_index_or};
 ghost use Rattle.sqlval.specs.Faults.{IsNotDiskFault, IsOrMemory};
 ghost use Rattle.sqlval.specs.declared.value.Value.{Value as ValueIs};
 ghost use Rattle.record.specs.Record.{IsRecord};
 ghost use Rattle.pages.specs.Calls.{Stays};
+ghost use Rattle.pages.specs.Map.{PageMap, page_at};
+ghost use Rattle.tree_page.specs.Payload.{index_most};
 ghost use Rattle.sqlval.specs.declared.collation.Collation.{Collation as CollationIs};
 ghost use Rattle.tree_index.specs.Entries.{Entry, entries_from};
-ghost use Rattle.tree_index.specs.Scanning.{CopiesEntries, GivesBatch, GivesBelow, PushesEntry, ReadsEntry, coming};
+ghost use Rattle.tree_index.specs.Scanning.{CopiesEntries, CopiesFirst, CopiesLying, GivesBatch, GivesBelow, PushesEntry, PushesLying, ReadsEntry, coming};
 
-use crate::cells::{at_page, child_of, len_of, local_in, most_in};
+use crate::cells::{at_page, child_of, len_of, local_in, most_in, start_of};
 use crate::comparing::Key;
 use crate::freeing::WAYS;
 use crate::placing::place_of;
@@ -17,7 +19,9 @@ use pages::Pages;
 use record::Record;
 use sqlval::{Collation, Damage, Fault, R, Value};
 use std::alloc::Global;
+use std::mem::replace;
 use tree_overflow::read_payload;
+use tree_page::{Kind, TreePage};
 
 /// Puts the record of the entry at a place of a page after what `out` has. (What `load` and `read_payload` refuse; `Damaged` for a page that
 /// has no such entry.)
@@ -56,14 +60,107 @@ fn push_entry<P: Pages>(pages: &mut P, number: u32, place: usize, batch: &mut Ve
     Ok(())
 }
 
+/// Memory for a record, without bytes: that of one of these, if there is one.
+fn memory_of(alloc: Global, spare: &mut Vec<Vec<u8>>) -> Vec<u8>
+    ensures { result.items ≡ [] }
+{
+    match spare.pop() {
+        Some(mut bytes) => {
+            bytes.clear();
+            bytes
+        }
+        None => Vec::new(alloc),
+    }
+}
+
+/// Puts the record of the entry at a place of a leaf after those of the batch, if it lies whole in its cell, of which `most` bytes at most lie
+/// there. Answers whether it does. (As `TreePage::entry` refuses it; `Memory`.)
+fn push_lying(
+    page: &TreePage<'_>,
+    number: u32,
+    place: usize,
+    most: usize,
+    batch: &mut Vec<Vec<u8>>,
+    spare: &mut Vec<Vec<u8>>,
+) -> R<bool>
+    ensures pushed { PushesLying page.now most place (map (λ bytes. bytes.items) batch.old.items)
+        (map (λ bytes. bytes.items) batch.new.items) result }
+    ensures not_disk { IfErr result IsNotDiskFault }
+{
+    let local = match page.entry(place) {
+        Ok(local) => local,
+        Err(fault) => return Err(at_page(fault, number)),
+    };
+    if local.size > most as u64 {
+        return Ok(false);
+    }
+    let mut entry = memory_of(*batch.allocator(), spare);
+    entry.extend_from_slice(local.bytes)?;
+    batch.push(entry)?;
+    Ok(true)
+}
+
+/// Puts the records of the entries of a leaf from a place up to another after those of the batch, as far as they lie whole in their cells. Answers
+/// up to which place. (What `push_lying` refuses.)
+fn copy_lying(
+    page: &TreePage<'_>,
+    number: u32,
+    from: usize,
+    upto: usize,
+    most: usize,
+    batch: &mut Vec<Vec<u8>>,
+    spare: &mut Vec<Vec<u8>>,
+) -> R<usize>
+    ensures copied { CopiesLying page.now most from upto (map (λ bytes. bytes.items) batch.old.items)
+        (map (λ bytes. bytes.items) batch.new.items) result }
+    ensures from { IfOk result (λ at. from ≤ at) }
+    ensures not_disk { IfErr result IsNotDiskFault }
+{
+    let mut at = from;
+    'entries: while at < upto {
+        if !push_lying(page, number, at, most, batch, spare)? {
+            return Ok(at);
+        }
+        at += 1;
+    }
+    Ok(at)
+}
+
+/// The same for the page of these bytes, whatever it is: of a page that is no leaf none. (What `TreePage::over` and `copy_lying` refuse.)
+fn copy_first(
+    bytes: &[u8],
+    number: u32,
+    from: usize,
+    upto: usize,
+    most: usize,
+    batch: &mut Vec<Vec<u8>>,
+    spare: &mut Vec<Vec<u8>>,
+) -> R<usize>
+    ensures copied { (pages : PageMap) (size : ℕ) → bytes.now ≡ page_at pages number → most ≡ index_most size
+        → CopiesFirst pages size number from upto (map (λ bytes. bytes.items) batch.old.items)
+        (map (λ bytes. bytes.items) batch.new.items) result }
+    ensures from { IfOk result (λ at. from ≤ at) }
+    ensures not_disk { IfErr result IsNotDiskFault }
+{
+    let page = match TreePage::over(bytes, start_of(number)) {
+        Ok(page) => page,
+        Err(fault) => return Err(at_page(fault, number)),
+    };
+    match page.kind() {
+        Kind::IndexLeaf => copy_lying(&page, number, from, upto, most, batch, spare),
+        _ => Ok(from),
+    }
+}
+
 /// Puts the records of the entries of a page from a place on after those of the batch, up to `most` of them. Answers whether these are all.
-/// (What `len_of` and `push_entry` refuse.)
+/// (What `len_of`, `load`, `copy_first` and `push_entry` refuse.)
 fn copy_entries<P: Pages>(
     pages: &mut P,
     number: u32,
     place: usize,
     most: usize,
     batch: &mut Vec<Vec<u8>>,
+    spare: &mut Vec<Vec<u8>>,
 ) -> R<bool>
     ensures copied { IsTrue (P.Pages.tells (P.Pages.below pages.old))
         → CopiesEntries (P.Pages.map pages.old)
@@ -74,15 +171,26 @@ fn copy_entries<P: Pages>(
     let len = len_of(pages, number)?;
     let left = len.saturating_sub(place);
     let count = most.min(left);
-    'entries: for at in place..place + count {
+    pages.load(number)?;
+    let whole = most_in(pages.page_size());
+    let first = copy_first(
+        pages.loaded(),
+        number,
+        place,
+        place + count,
+        whole,
+        batch,
+        spare,
+    )?;
+    'entries: for at in first..place + count {
         push_entry(pages, number, at, batch)?;
     }
     Ok(left <= most)
 }
 
 /// Puts the records of the first entries that come in the subtree under a page after those of the batch: up to `most` of a leaf (one, if that
-/// is 0), and if these are all of the leaf, the entry after them. Answers whether these are all. (`Damaged(Depth, number)` if a way has more
-/// pages than `ways` below it; what `place_of`, `child_of` and `push_entry` refuse.)
+/// is 0), and if these are all of the leaf, the entry after them. Answers whether these are all. `spare` has records whose memory is used again.
+/// (`Damaged(Depth, number)` if a way has more pages than `ways` below it; what `place_of`, `child_of` and `push_entry` refuse.)
 fn batch_below<P: Pages>(
     pages: &mut P,
     number: u32,
@@ -91,6 +199,7 @@ fn batch_below<P: Pages>(
     after: bool,
     most: usize,
     batch: &mut Vec<Vec<u8>>,
+    spare: &mut Vec<Vec<u8>>,
     scratch: &mut Vec<u8>,
 ) -> R<bool>
     ensures given { IsTrue (P.Pages.tells (P.Pages.below pages.old))
@@ -101,13 +210,23 @@ fn batch_below<P: Pages>(
 {
     let place = place_of(pages, number, key, after, scratch)?;
     let Some(child) = child_of(pages, number, place)? else {
-        let all = copy_entries(pages, number, place, most.max(1), batch)?;
+        let all = copy_entries(pages, number, place, most.max(1), batch, spare)?;
         return Ok(all);
     };
     if ways == 0 {
         return Err(Fault::Damaged(Damage::Depth, number));
     }
-    if !batch_below(pages, child, ways - 1, key, after, most, batch, scratch)? {
+    if !batch_below(
+        pages,
+        child,
+        ways - 1,
+        key,
+        after,
+        most,
+        batch,
+        spare,
+        scratch,
+    )? {
         return Ok(false);
     }
     if place >= len_of(pages, number)? {
@@ -235,11 +354,11 @@ impl Cursor {
         ensures stays { Stays P.Pages.below P.Pages.map P.Pages.count P.Pages.failures result
             pages.old pages.new }
     {
-        batch.clear();
+        let alloc = *batch.allocator();
+        let mut spare = replace(batch, Vec::new(alloc));
         if self.ended {
             return Ok(());
         }
-        let alloc = *batch.allocator();
         let mut scratch = Vec::new(alloc);
         let key = Key {
             columns,
@@ -254,6 +373,7 @@ impl Cursor {
             self.after,
             most,
             batch,
+            &mut spare,
             &mut scratch,
         )?;
         if whole {

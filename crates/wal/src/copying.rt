@@ -95,6 +95,7 @@ impl State {
     /// The newest frame of a page up to a mark, unless it was copied before.
     fn uncopied_frame(&self, mark: u32, number: u32) -> Option<u32>
         ensures found { IfSome result (λ frame. FindsFrame number mark self.now.index frame) }
+        ensures uncopied { IfSome result (λ frame. was_copied self.now number frame ≡ false) }
         ensures none { IsNone result → IsLeftOut self.now mark number }
     {
         match self.newest_frame(mark, number) {

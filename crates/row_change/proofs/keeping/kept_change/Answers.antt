@@ -12,14 +12,14 @@ use Rattle.row_change.proofs.keeping.kept_change.Goals as goal
 
 pub returns : goal.returns
 returns c =
-    let row = row_at c.args.rows.now c.args.place in
+    let row = row_at c.args.rows.now c.args.place.now in
     let sets = c.args.sets.now in
-    let given = map datum c.in_ok-given.given.items in
+    let given = map datum c.give_values.new.given.items in
     let none : Row = record { rowid = Null; values = [] } in
     let same : c.in-Some.row.now ≡ row =
-    c.in-Some.ensures.lookup.3.1 none ∙ (ap (λ (them : List Row). slice_index_or them c.args.place none) c.as_slice.ensures ∙ sym (unwrap_or-slice_get c.args.rows.now c.args.place none)) in
-    let picked = c.env_at.ensures ∙ ap (λ places. env_of (picked_rows (c.args.rows.now ∷ []) places)) c.as_slice-2.ensures in
-    let answer : values (env_of (row ∷ [])) (map (λ s. s.1) sets) ≡ Ok given = subst (λ env. values env (map (λ s. s.1) sets) ≡ Ok given) picked c.in_ok-given.ensures in
+    c.in-Some.ensures.lookup.3.1 none ∙ (ap (λ (them : List Row). slice_index_or them c.args.place.now none) c.as_slice.ensures ∙ sym (unwrap_or-slice_get c.args.rows.now c.args.place.now none)) in
+    let picked = c.env_at-env.ensures ∙ ap (λ places. env_of (picked_rows (c.args.rows.now ∷ []) places)) (c.as_slice-2.ensures ∙ c.one.ensures) in
+    let answer : values (env_of (row ∷ [])) (map (λ s. s.1) sets) ≡ Ok given = subst (λ env. values env (map (λ s. s.1) sets) ≡ Ok given) picked c.in_ok-give_values.ensures in
     let are : map value_of c.put_given.new.fields.items ≡ set_values row.values (zip (map (λ s. s.0) sets) given) =
     c.put_given.ensures ∙ (ap (λ ds. set_values (map value_of c.in_ok-fields.fields.items) (zip (map (λ s. s.0) sets) (map datum ds))) c.as_slice-3.ensures.value
     ∙ ap (λ vs. set_values vs (zip (map (λ s. s.0) sets) given)) (c.in_ok-fields.ensures ∙ ap (λ r. r.values) same)) in

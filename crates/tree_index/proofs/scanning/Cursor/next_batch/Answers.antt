@@ -1,4 +1,4 @@
-use Rattle.std.proofs.Common.{◌≡◌, ◌∙◌, List, [], map, false, Ok, refl, ap, subst, inl}
+use Rattle.std.proofs.Common.{◌≡◌, ◌∙◌, ℕ, Vec, Global, List, [], map, false, Ok, refl, ap, subst, inl}
 use Rattle.sqlval.specs.declared.value.Value.{Value}
 use Rattle.tree_index.specs.Scanning.{GivesBelow}
 use Rattle.tree_index.proofs.Batches.{as_whole, root_batch, ends_with, given_some}
@@ -14,9 +14,9 @@ returns-in_err-self-clause-given g c = λ told entries used whole tree.
     let after = c.args.self.now.after in
     let columns = c.args.columns.now in
     let key = c.args.self.now.key.items in
-    let before = map (λ bytes. bytes.items) c.clear.new.self.items in
+    let before = map (λ bytes. bytes.items) c.replace-spare.new.dest.items in
     let batch = map (λ bytes. bytes.items) c.batch_below.new.batch.items in
-    let empty : before ≡ [] = ap (map (λ bytes. bytes.items)) c.clear.ensures.items in
+    let empty : before ≡ [] = ap (λ (v : Vec (Vec ℕ Global) Global). map (λ bytes. bytes.items) v.items) c.replace-spare.ensures.after ∙ ap (map (λ bytes. bytes.items)) c.new.ensures.items in
     let gives = subst (λ (k : List Value). GivesBelow m size root 19 after columns k before batch (Ok c.in_ok-whole.whole)) c.as_slice.ensures.value (c.in_ok-whole.ensures.given told) in
     let b = as_whole after columns key entries batch c.in_ok-whole.whole false c.if-whole.false (root_batch m size root after columns key entries used tree whole before batch (Ok c.in_ok-whole.whole) empty gives) in
     let end = ends_with batch b.given b.records (b.some refl) in
@@ -32,9 +32,9 @@ returns-clause-given g c = λ told entries used whole tree.
     let after = c.args.self.now.after in
     let columns = c.args.columns.now in
     let key = c.args.self.now.key.items in
-    let before = map (λ bytes. bytes.items) c.clear.new.self.items in
+    let before = map (λ bytes. bytes.items) c.replace-spare.new.dest.items in
     let batch = map (λ bytes. bytes.items) c.batch_below.new.batch.items in
-    let empty : before ≡ [] = ap (map (λ bytes. bytes.items)) c.clear.ensures.items in
+    let empty : before ≡ [] = ap (λ (v : Vec (Vec ℕ Global) Global). map (λ bytes. bytes.items) v.items) c.replace-spare.ensures.after ∙ ap (map (λ bytes. bytes.items)) c.new.ensures.items in
     let gives = subst (λ (k : List Value). GivesBelow m size root 19 after columns k before batch (Ok c.in_ok-whole.whole)) c.as_slice.ensures.value (c.in_ok-whole.ensures.given told) in
     let b = as_whole after columns key entries batch c.in_ok-whole.whole false c.if-whole.false (root_batch m size root after columns key entries used tree whole before batch (Ok c.in_ok-whole.whole) empty gives) in
     let end = ends_with batch b.given b.records (b.some refl) in

@@ -1,0 +1,2 @@
+pub mod SchemaValues
+pub mod ColumnNames

@@ -1,0 +1,13 @@
+pub mod Boxes
+pub mod Bytes
+pub mod Cells
+pub mod Commands
+pub mod Fields
+pub mod Inserts
+pub mod Names
+pub mod Output
+pub mod Pairs
+pub mod Pieces
+pub mod Places
+pub mod Refusals
+pub mod Statements
