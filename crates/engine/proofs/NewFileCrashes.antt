@@ -14,7 +14,7 @@ use Rattle.disk.proofs.Moments.{alone, stays, gains_good, after_sync, gains_vers
 use Rattle.tree_leaf.specs.Leaf.{leaf_header}
 use Rattle.tree_leaf.specs.Writing.{content_bytes, node_of, leaf_of}
 use Rattle.pager_older.specs.Older.{IsSyncedAs}
-use Rattle.engine.specs.Creating.{is_zero_byte, is_blank_content, IsEmptyDatabase, IsBlankOrCreated, LeavesBlankOr, LeavesBlankOrCreated, BecomesDatabase, BecomesPage}
+use Rattle.engine.specs.Creating.{is_zero_byte, is_blank_content, IsEmptyDatabase, IsBlankOr, IsBlankOrCreated, LeavesBlankOr, LeavesBlankOrCreated, BecomesDatabase, BecomesPage}
 use Rattle.engine.proofs.NewFiles.{overwritten_nothing}
 
 -- ---- bytes of zero
@@ -155,6 +155,33 @@ module _ (page c : List ℕ) (flat : IsFlat page) (torn : IsTorn [] page c) wher
     | inr size ↦ torn_by size
   ]
 
+-- ---- what is in the file after each call
+
+module _ (page : List ℕ) (old : File) (blank : is_blank_content old.content ≡ true) where
+  pub is_still : (new : File) → new ≡ old → IsBlankOr page new.content
+  is_still new same = inl (ap (λ (f : File). is_blank_content f.content) same ∙ blank)
+
+  pub is_uncut : (new : File) → (new ≡ old) ⊎ FailsToCut 0 old new → IsBlankOr page new.content
+  is_uncut new (inl same) = is_still new same
+  is_uncut new (inr fails) = elim fails.content [
+    | inl same ↦ inl (ap is_blank_content same ∙ blank)
+    | inr none ↦ inl (ap is_blank_content none)
+  ]
+
+module _ (page : List ℕ) (flat : IsFlat page) (old mid : File) (cuts : CutsFile 0 old mid) where
+  -- what is written is the page
+  is_page : (write_version 0 page mid).bytes ≡ page
+  is_page = ap (overwritten 0 page) cuts.content ∙ overwritten_nothing page
+
+  pub is_unwritten : (new : File) → (new ≡ mid) ⊎ FailsToWrite 0 page mid new → IsBlankOr page new.content
+  is_unwritten new (inl same) = inl (ap (λ (f : File). is_blank_content f.content) same ∙ ap is_blank_content cuts.content)
+  is_unwritten new (inr fails) =
+      torn_page page new.content flat (subst (λ (b : List ℕ). IsTorn b page new.content) cuts.content (subst (λ (m : List ℕ). IsTorn mid.content m new.content) is_page fails.content))
+
+  pub is_written : {T E : Type 0} (result : Result T E) (wrote new : File) → Writes 0 page mid wrote → OnOk result (Syncs wrote new) → OnErr result (new ≡ wrote) → IsBlankOr page new.content
+  is_written (Ok x) wrote new writes done failed = inr (done.content ∙ writes.content ∙ is_page)
+  is_written (Err e) wrote new writes done failed = inr (ap (λ (f : File). f.content) failed ∙ writes.content ∙ is_page)
+
 -- ---- the calls one after the other
 
 module _ (page : List ℕ) (flat : IsFlat page) (old : File) (synced : IsSynced old) (blank : is_blank_content old.content ≡ true) where
@@ -168,16 +195,13 @@ module _ (page : List ℕ) (flat : IsFlat page) (old : File) (synced : IsSynced 
   ]
 
   pub untouched : (new : File) → new ≡ old → BecomesPage page old new
-  untouched new same = record { moments = stays (LeavesBlankOr page) old new same leaves_old; content = inl (ap (λ (f : File). is_blank_content f.content) same ∙ blank) }
+  untouched new same = record { moments = stays (LeavesBlankOr page) old new same leaves_old; content = is_still page old blank new same }
 
   pub not_cut : (new : File) → (new ≡ old) ⊎ FailsToCut 0 old new → BecomesPage page old new
   not_cut new (inl same) = untouched new same
   not_cut new (inr fails) = record {
     moments = gains_good (LeavesBlankOr page) (cut_version 0 old) old new fails.gains leaves_cut;
-    content = elim fails.content [
-      | inl same ↦ inl (ap is_blank_content same ∙ blank)
-      | inr none ↦ inl (ap is_blank_content none)
-    ];
+    content = is_uncut page old blank new (inr fails);
   }
 
   module _ (mid : File) (cuts : CutsFile 0 old mid) where
@@ -187,12 +211,9 @@ module _ (page : List ℕ) (flat : IsFlat page) (old : File) (synced : IsSynced 
     after_cut : versions mid ≡ whole old.content ∷ cut_version 0 old ∷ []
     after_cut = gains_versions (cut_version 0 old) old mid cuts.gains ∙ ap (λ (vs : List Version). vs ++ cut_version 0 old ∷ []) (alone old synced)
 
-    is_page : (write_version 0 page mid).bytes ≡ page
-    is_page = ap (overwritten 0 page) cuts.content ∙ overwritten_nothing page
-
     leaves_written : LeavesBlankOr page (versions mid ++ write_version 0 page mid ∷ [])
     leaves_written c left =
-        left_three old.content page (write_version 0 page mid) is_page blank flat c (subst (λ (vs : List Version). IsLeft (vs ++ write_version 0 page mid ∷ []) c) after_cut left)
+        left_three old.content page (write_version 0 page mid) (is_page page flat old mid cuts) blank flat c (subst (λ (vs : List Version). IsLeft (vs ++ write_version 0 page mid ∷ []) c) after_cut left)
 
     leaves_mid : LeavesBlankOr page (versions mid)
     leaves_mid = subst (LeavesBlankOr page) (sym (gains_versions (cut_version 0 old) old mid cuts.gains)) leaves_cut
@@ -200,26 +221,19 @@ module _ (page : List ℕ) (flat : IsFlat page) (old : File) (synced : IsSynced 
     pub not_written : (new : File) → (new ≡ mid) ⊎ FailsToWrite 0 page mid new → BecomesPage page old new
     not_written new (inl same) = record {
       moments = always_both old mid new (LeavesBlankOr page) cut_moments (stays (LeavesBlankOr page) mid new same leaves_mid);
-      content = inl (ap (λ (f : File). is_blank_content f.content) same ∙ ap is_blank_content cuts.content);
+      content = is_unwritten page flat old mid cuts new (inl same);
     }
     not_written new (inr fails) = record {
       moments = always_both old mid new (LeavesBlankOr page) cut_moments (gains_good (LeavesBlankOr page) (write_version 0 page mid) mid new fails.gains leaves_written);
-      content = torn_page page new.content flat (subst (λ (b : List ℕ). IsTorn b page new.content) cuts.content (subst (λ (m : List ℕ). IsTorn mid.content m new.content) is_page fails.content));
+      content = is_unwritten page flat old mid cuts new (inr fails);
     }
 
     pub written : {T E : Type 0} (result : Result T E) (wrote new : File) → Writes 0 page mid wrote → OnOk result (Syncs wrote new) → OnErr result (new ≡ wrote) → BecomesPage page old new
     written result wrote new writes done failed = record {
       moments = always_both old mid new (LeavesBlankOr page) cut_moments
-          (after_sync result (LeavesBlankOr page) (write_version 0 page mid) mid wrote new writes.gains done failed leaves_written (λ c left. inr (left_synced (whole wrote.content) c left ∙ content)));
-      content = inr (same_content result done failed ∙ content);
+          (after_sync result (LeavesBlankOr page) (write_version 0 page mid) mid wrote new writes.gains done failed leaves_written (λ c left. inr (left_synced (whole wrote.content) c left ∙ (writes.content ∙ is_page page flat old mid cuts))));
+      content = is_written page flat old mid cuts result wrote new writes done failed;
     }
-      where
-        content : wrote.content ≡ page
-        content = writes.content ∙ is_page
-
-        same_content : {T E : Type 0} (result : Result T E) → OnOk result (Syncs wrote new) → OnErr result (new ≡ wrote) → new.content ≡ wrote.content
-        same_content (Ok x) done failed = done.content
-        same_content (Err e) done failed = ap (λ (f : File). f.content) failed
 
 -- ---- page 1 of the empty database
 
@@ -258,6 +272,11 @@ module _ (size : ℕ) (db : File) (synced : IsSynced db) (blank : is_blank_conte
   stays_blank : (log new_log : File) → Elapses log new_log → Always log new_log (λ vs. LeavesBlankOrCreated size (versions db) vs)
   stays_blank log new_log elapses = record { elapses = elapses; each = λ t since until. leaves_blank (versions_in new_log t) }
 
+-- page 1 beside a log without a byte
+pub is_created : (size : ℕ) (page : List ℕ) {c l : List ℕ} → IsEmptyDatabase size page → IsBlankOr page c → l ≡ [] → IsBlankOrCreated size c l
+is_created size page empty (inl blank) none = inl blank
+is_created size page empty (inr same) none = inr (subst (IsEmptyDatabase size) (sym same) empty, none)
+
 -- while the database file is as it was, whatever happens to the log
 pub nothing_becomes : (size : ℕ) (db log new_db new_log : File) → IsSynced db → is_blank_content db.content ≡ true → new_db ≡ db → Elapses log new_log → BecomesDatabase size db log new_db new_log
 nothing_becomes size db log new_db new_log synced blank same elapses = record {
@@ -279,13 +298,9 @@ becomes size page db log new_db new_log synced blank empty elapses emptied made 
       ),
     ),
   );
-  contents = meant made.content emptied.content;
+  contents = is_created size page empty made.content emptied.content;
 }
   where
-    meant : {c l : List ℕ} → (is_blank_content c ≡ true) ⊎ (c ≡ page) → l ≡ [] → IsBlankOrCreated size c l
-    meant (inl blank) none = inl blank
-    meant (inr same) none = inr (subst (IsEmptyDatabase size) (sym same) empty, none)
-
     good : (vs : List Version) → LeavesBlankOr page vs → LeavesBlankOrCreated size vs (versions new_log)
     good vs leaves c l left left_log =
-        meant (leaves c left) (left_synced (whole new_log.content) l (subst (λ (vs : List Version). IsLeft vs l) (alone new_log emptied.synced) left_log) ∙ emptied.content)
+        is_created size page empty (leaves c left) (left_synced (whole new_log.content) l (subst (λ (vs : List Version). IsLeft vs l) (alone new_log emptied.synced) left_log) ∙ emptied.content)

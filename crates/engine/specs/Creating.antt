@@ -32,14 +32,18 @@ is_zero_byte byte = byte == 0
 abbrev pub is_blank_content : List ℕ → Bool
 is_blank_content bytes = if nat_lt 65536 (length bytes) then false else list_all is_zero_byte bytes
 
--- a crash leaves a blank file, or this page
+-- a blank file, or this page
+abbrev pub IsBlankOr : List ℕ → List ℕ → Type 0
+IsBlankOr page c = (is_blank_content c ≡ true) ⊎ (c ≡ page)
+
+-- a crash leaves one of these
 abbrev pub LeavesBlankOr : List ℕ → List Version → Type 0
-LeavesBlankOr page versions = (c : List ℕ) → IsLeft versions c → (is_blank_content c ≡ true) ⊎ (c ≡ page)
+LeavesBlankOr page versions = (c : List ℕ) → IsLeft versions c → IsBlankOr page c
 
 -- At each moment until now a crash leaves a blank file or this page, and the content is one of them too.
 pub record BecomesPage (page : List ℕ) (old new : File) : Type 0 where
   pub moments : Always old new (LeavesBlankOr page)
-  pub content : (is_blank_content new.content ≡ true) ⊎ (new.content ≡ page)
+  pub content : IsBlankOr page new.content
 
 -- a blank database file beside any log, or page 1 of the empty database beside a log without a byte
 abbrev pub IsBlankOrCreated : ℕ → List ℕ → List ℕ → Type 0

@@ -1,19 +1,22 @@
 -- What follows of databases and crashes: the promise to a program that has been answered.
-use Rattle.std.specs.Prelude.{◌≡◌, ℕ, false, IsTrue, List, ◌++◌, Result}
-use Rattle.disk.specs.File.{File, Version, IsLeft, IsMoment, IsSynced, versions}
+use Rattle.std.specs.Prelude.{◌≡◌, ◌⊎◌, ℕ, true, false, IsTrue, List, [], ◌++◌, Result, IfErr, IfOk, IsErrAnd}
+use Rattle.disk.specs.File.{File, Version, IsLeft, IsMoment, IsSynced, Throughout, versions}
 use Rattle.disk.specs.Replay as replay
 use Rattle.disk.specs.declared.device.Disk.{Ghosts}
+use Rattle.sqlval.specs.declared.fault.Fault.TheVariants.{Blank, Io}
 use Rattle.sql_syntax.specs.declared.statement.Statement.{Statement}
 use Rattle.catalog.specs.Database.{Database}
 use Rattle.wal.specs.Crashes.{HasNoChance}
 use Rattle.wal.specs.declared.log.Refused.{Refused}
+use Rattle.wal_frame.specs.declared.log_header.Salts.{Salts}
 use Rattle.session.specs.Crashes.{MayShow, MayShowInRun}
 use Rattle.session.specs.Holding.{Hold, LeaveHeld}
 use Rattle.session.specs.Machine.{Machine, Reply, newest}
 use Rattle.session.specs.Representation.{StepsOver}
-use Rattle.engine.specs.Creating.{LeavesBlankOrCreated}
+use Rattle.engine.specs.Converting.{HoldsAlone, LeaveAloneOrHeld}
+use Rattle.engine.specs.Creating.{BecomesDatabase, IsEmptyDatabase, LeavesBlankOrCreated, is_blank_content}
 use Rattle.engine.specs.EngineState.{db_disk, log_disk}
-use Rattle.engine.specs.Opening.{HoldsMeanwhile, IsOpenOf, LeavesOpened, Opens, db_left, log_left}
+use Rattle.engine.specs.Opening.{HoldsMeanwhile, IsOpenOf, IsOpenedFrom, IsRefusedOpen, LeavesOpened, Opens, db_left, log_left}
 use Rattle.engine.specs.Representation.{EngineRepresents, StepsByTextTo}
 use Rattle.engine.specs.Serving.{RunsTo, Reply as Answer}
 use Rattle.engine.specs.declared.opening.Engine.{Engine}
@@ -26,11 +29,12 @@ HeldOnce = (db log : List ℕ) (a b : Database) → Hold db log a → Hold db lo
 abbrev pub IsTrueEarlier : (List Version → List Version → Type 0) → Type 0
 IsTrueEarlier Good = (dbs more_dbs logs more_logs : List Version) → Good (dbs ++ more_dbs) (logs ++ more_logs) → Good dbs logs
 
--- So it is of what a crash leaves in a step, while files are opened, and while a database is made.
+-- So it is of what a crash leaves in a step, while files are opened, while a database is made, and while a file is converted.
 pub record HoldsEarlier : Type 0 where
   pub in_step : (before after : Machine) → IsTrueEarlier (LeaveHeld (MayShow before after))
   pub in_opening : (db log : File) → IsTrueEarlier (LeavesOpened db log)
   pub in_creating : (page_size : ℕ) → IsTrueEarlier (LeavesBlankOrCreated page_size)
+  pub in_converting : (database : Database) → IsTrueEarlier (LeaveAloneOrHeld database)
 
 -- Each moment of one file, from the old files until the new ones, goes with a moment of the other so that this is true of the two; and it is
 -- true of the two as they are at the end. (Each call of a disk may be the last that does anything, so each real moment is such an end.)
@@ -51,6 +55,39 @@ module _ {D : Type 0} (g : Ghosts D) where
   -- whatever pair of contents a crash leaves, where no frame of the log is accepted by chance
   abbrev pub AreFoundAgain : (Database → Type 0) → List Version → List Version → Type 0
   AreFoundAgain May dbs logs = (db log : List ℕ) → IsLeft dbs db → IsLeft logs log → HasNoChance logs log → IsFoundAgain May db log
+
+  -- This database file is blank, so that a database can be created of it. A disk with just this content, all synced, is refused as blank
+  -- beside any log, unless a call fails.
+  pub record IsBlankAgain (db : List ℕ) : Type 0 where
+    pub blank : is_blank_content db ≡ true
+    pub refused : (d l : D) (salts : Salts) (result : Result (Engine D g) (Refused D)) → IsTrue (g.tells d) → g.file d ≡ replay.fresh db → IfOk result (IsOpenedFrom d l salts) → IfErr result (IsRefusedOpen g.tells g.file g.failures d l)
+        → IsErrAnd result (λ given. (given.fault ≡ Blank) ⊎ (given.fault ≡ Io))
+
+  -- page 1 of the empty database beside a log without a byte, where opening finds the database of no objects
+  pub record IsNewAgain (page_size : ℕ) (db log : List ℕ) : Type 0 where
+    pub page : IsEmptyDatabase page_size db
+    pub no_log : log ≡ []
+    pub found : IsFoundAgain (λ database. database ≡ []) db log
+
+  -- whatever pair of contents a crash leaves is one of these two
+  abbrev pub AreBlankOrNew : ℕ → List Version → List Version → Type 0
+  AreBlankOrNew page_size dbs logs = (db log : List ℕ) → IsLeft dbs db → IsLeft logs log → IsBlankAgain db ⊎ IsNewAgain page_size db log
+
+  -- A database was created of two disks whose database file was blank and synced. Whenever in it a crash comes, and whatever it leaves, the
+  -- database file is blank, or opening finds the database of no objects.
+  abbrev pub CreatingKeeps : ℕ → D → D → D → D → Type 0
+  CreatingKeeps page_size db log new_db new_log = BecomesDatabase page_size (g.file db) (g.file log) (g.file new_db) (g.file new_log)
+      → IsTrueAtMoments (AreBlankOrNew page_size) (g.file db) (g.file log) (g.file new_db) (g.file new_log)
+
+  -- whatever pair of contents a crash leaves, the file holds the database alone, or opening finds it
+  abbrev pub AreAloneOrFound : Database → List Version → List Version → Type 0
+  AreAloneOrFound database dbs logs = (db log : List ℕ) → IsLeft dbs db → IsLeft logs log → HoldsAlone db database ⊎ IsFoundAgain (λ found. found ≡ database) db log
+
+  -- A file was converted that was synced and held a database alone, beside a log without a byte. Whenever in it a crash comes, and whatever
+  -- it leaves, the file holds the database alone still, or opening finds it.
+  abbrev pub ConvertingKeeps : D → D → D → D → Type 0
+  ConvertingKeeps db log new_db new_log = (database : Database) → Throughout (LeaveAloneOrHeld database) (g.file db) (g.file log) (g.file new_db) (g.file new_log)
+      → IsTrueAtMoments (AreAloneOrFound database) (g.file db) (g.file log) (g.file new_db) (g.file new_log)
 
 module _ {D : Type 0} {g : Ghosts D} where
   -- The files of an engine that hasn't failed hold the newest database of the machine that it represents.

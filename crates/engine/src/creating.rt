@@ -8,7 +8,7 @@ ghost use Rattle.disk.specs.Calls.{Rose};
 ghost use Rattle.disk.specs.File.{Elapses, IsSynced};
 ghost use Rattle.pager_older.specs.Counting.{CountsIo};
 ghost use Rattle.pager_older.specs.Older.{IsSyncedAs};
-ghost use Rattle.engine.specs.Creating.{is_blank_content, is_zero_byte, BecomesDatabase, BecomesPage, CreatedHold, HasCreated, IsNewFileRefusal, IsEmptyDatabase, Stays};
+ghost use Rattle.engine.specs.Creating.{is_blank_content, is_zero_byte, BecomesDatabase, BecomesPage, CreatedHold, HasCreated, IsBlankOr, IsBlankOrCreated, IsNewFileRefusal, IsEmptyDatabase, Stays};
 
 use db_header::Header;
 use disk::Disk;
@@ -95,6 +95,8 @@ fn put_page<D: Disk>(db: &mut D, page: &[u8]) -> R<()>
         → IsTrue (D.tells db.old) → IsSynced (D.file db.old)
         → is_blank_content (D.file db.old).content ≡ true
         → BecomesPage page.now (D.file db.old) (D.file db.new) }
+    ensures left { (size : ℕ) → IsPageSize size → IsEmptyDatabase size page.now → IsTrue (D.tells db.old)
+        → is_blank_content (D.file db.old).content ≡ true → IsBlankOr page.now (D.file db.new).content }
     ensures refused { IfErr result (λ fault. fault ≡ Io) }
     ensures counted { CountsIo result (D.failures db.old) (D.failures db.new) }
 {
@@ -113,6 +115,10 @@ fn put_empty<D: Disk>(db: &mut D, log: &mut D, page: &[u8]) -> R<()>
         → IsTrue (D.tells db.old) → IsTrue (D.tells log.old)
         → IsSynced (D.file db.old) → is_blank_content (D.file db.old).content ≡ true
         → BecomesDatabase size (D.file db.old) (D.file log.old) (D.file db.new) (D.file log.new) }
+    ensures left { (size : ℕ) → IsPageSize size → IsEmptyDatabase size page.now
+        → IsTrue (D.tells db.old) → IsTrue (D.tells log.old)
+        → is_blank_content (D.file db.old).content ≡ true
+        → IsBlankOrCreated size (D.file db.new).content (D.file log.new).content }
     ensures refused { IfErr result (λ fault. fault ≡ Io) }
     ensures called { OnErr result (Rose (D.failures db.old) (D.failures db.new)
         ⊎ Rose (D.failures log.old) (D.failures log.new)) }
@@ -138,7 +144,11 @@ pub fn create<D: Disk>(alloc: Global, db: &mut D, log: &mut D, page_size: u32) -
     // Whatever the answer, nothing but a blank file is written over, and its log alone is cut.
     ensures untouched { IsTrue (D.tells db.old) → is_blank_content (D.file db.old).content ≡ false
         → Stays D.tells D.file db.old db.new × Stays D.tells D.file log.old log.new }
-    // Of a blank file, synced before, a crash at any moment leaves a blank database file, or the empty database beside a log without a byte; and so does each exit.
+    // Of a blank file, synced or not, each answer leaves a blank database file, or the empty database beside a log without a byte.
+    ensures left { IsTrue (D.tells db.old) → IsTrue (D.tells log.old)
+        → is_blank_content (D.file db.old).content ≡ true
+        → IsBlankOrCreated page_size (D.file db.new).content (D.file log.new).content }
+    // Of one that was synced before, a crash at any moment leaves such files too.
     ensures crash { IsTrue (D.tells db.old) → IsTrue (D.tells log.old) → IsSynced (D.file db.old)
         → is_blank_content (D.file db.old).content ≡ true
         → BecomesDatabase page_size (D.file db.old) (D.file log.old) (D.file db.new) (D.file log.new) }

@@ -1,6 +1,6 @@
 //! Laws of what a crash leaves.
 
-ghost use Rattle.engine.specs.Promises.{CrashKeepsCommits, CrashKeepsPrepared, CrashKeepsRuns, HeldOnce, HoldsEarlier, OpeningKeeps, RepresentedFilesHold};
+ghost use Rattle.engine.specs.Promises.{ConvertingKeeps, CrashKeepsCommits, CrashKeepsPrepared, CrashKeepsRuns, CreatingKeeps, HeldOnce, HoldsEarlier, OpeningKeeps, RepresentedFilesHold};
 
 use crate::opening::Engine;
 use db_pages::pages_store_one_database;
@@ -42,4 +42,14 @@ pub fn crash_keeps_runs<D: Disk + Drop>(_old: &Engine<D>, _new: &Engine<D>)
 /// Whenever a crash comes while files are opened, opening what it leaves finds the database that they held.
 pub fn opening_keeps<D: Disk + Drop>(_db: &D, _log: &D, _opened: &Result<Engine<D>, Refused<D>>)
     ensures { OpeningKeeps _db.now _log.now _opened.now }
+{}
+
+/// Whenever a crash comes while a database is created, it leaves a blank database file, or opening what it leaves finds the database of no objects.
+pub fn creating_keeps<D: Disk + Drop>(_page_size: u32, _db: &D, _log: &D, _new_db: &D, _new_log: &D)
+    ensures { CreatingKeeps (record { tells = D.tells; file = D.file; failures = D.failures }) _page_size _db.now _log.now _new_db.now _new_log.now }
+{}
+
+/// Whenever a crash comes while a file is converted, it leaves a file that holds its database alone, or opening what it leaves finds the same.
+pub fn converting_keeps<D: Disk + Drop>(_db: &D, _log: &D, _new_db: &D, _new_log: &D)
+    ensures { ConvertingKeeps (record { tells = D.tells; file = D.file; failures = D.failures }) _db.now _log.now _new_db.now _new_log.now }
 {}

@@ -15,8 +15,8 @@ mod serving;
 pub use converting::convert;
 pub use creating::{create, created_files_hold_nothing};
 pub use laws::{
-    crash_keeps_commits, crash_keeps_prepared, crash_keeps_runs, files_hold_one_database,
-    held_earlier, opening_keeps, represented_files_hold,
+    converting_keeps, crash_keeps_commits, crash_keeps_prepared, crash_keeps_runs, creating_keeps,
+    files_hold_one_database, held_earlier, opening_keeps, represented_files_hold,
 };
 pub use opening::Engine;
 pub use output::put_reply;
