@@ -213,6 +213,8 @@ class _File:
 
     def __init__(self, path, page_size, salts, cached_statements):
         self.cached_statements, self.statements = cached_statements, collections.OrderedDict()
+        # (the text that came last, the object itself, and its statement: a loop gives the same again and again)
+        self.last_text = self.last = None
         self.handle = _library.File(_name_of_file(path), page_size, salts, _exception, _plain_values)
 
     def statement(self, sql):
@@ -221,6 +223,7 @@ class _File:
         if not statement:
             return self._new_statement(sql)
         self.statements.move_to_end(sql)
+        self.last_text, self.last = sql, statement
         return statement
 
     def _new_statement(self, sql):
@@ -240,11 +243,13 @@ class _File:
 
     def _keep(self, sql, statement):
         self.statements[sql] = statement
+        self.last_text = self.last = None
         while len(self.statements) > self.cached_statements:
             self.statements.popitem(last=False)
 
     def close(self):
         self.statements.clear()
+        self.last_text = self.last = None
         self.handle.close()
 
 
@@ -263,7 +268,9 @@ class Connection:
         return Cursor(self)
 
     def execute(self, sql, parameters=()):
-        return Cursor(self, self._file.statement(sql).run(self.number, parameters))
+        file = self._file
+        statement = file.last if sql is file.last_text else file.statement(sql)
+        return Cursor(self, statement.run(self.number, parameters))
 
     def executemany(self, sql, many):
         return self.cursor().executemany(sql, many)
