@@ -16,3 +16,4 @@ pub mod Rooms
 pub mod PlacingLemmas
 pub mod ReplacingLemmas
 pub mod RemovingLemmas
+pub mod RewritingLemmas

@@ -174,7 +174,7 @@ front_stays page fronts rest bytes at e within (inr after) =
 -- ---- the page
 
 -- a page with one cell in the place of one that is as long
-record Replaced (kind : ℕ) (page : List ℕ) (start : ℕ) (right : List ℕ) (cells : List (List ℕ)) (is : IsTreePage kind page start right cells) (cells_now : List (List ℕ)) (new : List ℕ) : Type 0 where
+pub record Replaced (kind : ℕ) (page : List ℕ) (start : ℕ) (right : List ℕ) (cells : List (List ℕ)) (is : IsTreePage kind page start right cells) (cells_now : List (List ℕ)) (new : List ℕ) : Type 0 where
   pub now : IsTreePage kind new start right cells_now
   pub spans_stay : now.spans ≡ is.spans
   pub long : length new ≡ length page
@@ -193,7 +193,7 @@ of_front one before at size limit from_is to_is zero_is end_is (inr le) = inr (o
 pub regroup : (before header right pointers rest : List ℕ) → (before ++ (header ++ (right ++ pointers))) ++ rest ≡ before ++ (header ++ (right ++ (pointers ++ rest)))
 regroup before header right pointers rest = simp append_assoc
 
-page_with : (kind : ℕ) (page : List ℕ) (start : ℕ) (right : List ℕ) (cells : List (List ℕ)) (is : IsTreePage kind page start right cells) (xs : List (List ℕ)) (old new : List ℕ) (ys : List (List ℕ)) (at : ℕ) → cells ≡ xs ++ (old ∷ ys)
+pub page_with : (kind : ℕ) (page : List ℕ) (start : ℕ) (right : List ℕ) (cells : List (List ℕ)) (is : IsTreePage kind page start right cells) (xs : List (List ℕ)) (old new : List ℕ) (ys : List (List ℕ)) (at : ℕ) → cells ≡ xs ++ (old ∷ ys)
     → length old ≡ length new → (slice_index_or is.spans (length xs) no_span).from ≡ at → at + length new ≤ length page → Replaced kind page start right cells is (xs ++ (new ∷ ys)) (written_over at new page)
 page_with kind page start right cells is xs old new ys at cells_are same from_is within =
     let written = written_over at new page in

@@ -8,4 +8,5 @@ pub mod Splicing
 pub mod Spreading
 pub mod Placing
 pub mod Replacing
+pub mod Rewriting
 pub mod Removing

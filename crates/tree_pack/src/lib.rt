@@ -8,6 +8,7 @@ mod laws;
 mod placing;
 mod removing;
 mod replacing;
+mod rewriting;
 mod splicing;
 mod spreading;
 
@@ -19,5 +20,6 @@ pub use laws::{
     sides_are_joined,
 };
 pub use placing::place_cell;
+pub use rewriting::put_payload;
 pub use splicing::{join, splice};
 pub use spreading::{Packed, Piece, pack};

@@ -1,6 +1,6 @@
 //! Putting cells in the places of others that are as long.
 
-ghost use Rattle.std.specs.Prelude.{◌≡◌, ◌+◌, ◌≤◌, length, map, IfErr, IfSome, IsTrue};
+ghost use Rattle.std.specs.Prelude.{◌≡◌, ◌+◌, ◌≤◌, length, map, IfErr, IfSome, IsFalse, IsTrue};
 ghost use Rattle.tree_page.specs.Node.{Node, IsNode};
 ghost use Rattle.tree_pack.specs.Replacing.{IsCellAt, IsPlaceOn, written_over};
 ghost use Rattle.tree_pack.specs.Splicing.{SplicesOne};
@@ -64,6 +64,7 @@ pub(crate) fn cell_at(page: &[u8], start: usize, place: usize) -> Option<CellPla
 pub(crate) fn write_over(page: &mut Vec<u8>, at: usize, bytes: &[u8]) -> bool
     ensures fits { IsTrue result → at + length bytes.now ≤ length page.old.items }
     ensures written { IsTrue result → page.new.items ≡ written_over at bytes.now page.old.items }
+    ensures same { IsFalse result → page.new ≡ page.old }
 {
     if page.len() < at || page.len() - at < bytes.len() {
         return false;
