@@ -66,3 +66,5 @@ mod Pieces
 mod Givings
 mod Clearing
 mod OneTrees
+mod RewrittenRows
+mod RewrittenLeaves

@@ -18,6 +18,7 @@ use Rattle.tree_store.proofs.PutPages.{fresh_same}
 use Rattle.freelist.specs.Calls.{AreFree}
 use Rattle.freelist.proofs.Causing.{causes_after}
 use Rattle.tree_overflow.specs.Calls.{IsWritten}
+use Rattle.tree_overflow.specs.Chains.{IsPayload}
 use Rattle.tree_overflow.proofs.Laying.{keeps_then, same_keeps}
 use Rattle.tree_page.specs.Node.{Local, IsRowCell}
 use Rattle.tree_page.specs.Payload.{table_most, least, fitted, held_size, local_size}
@@ -60,28 +61,32 @@ pub is_none : {A : Type 0} (o : Option A) → ((x : A) → o ≡ Some x → ⊥)
 is_none None other = refl
 is_none (Some x) other = absurd (other x refl)
 
--- a payload that lies whole in its cell was written there
-pub whole_written : (m : PageMap) (size : ℕ) (free payload : List ℕ) → AreFree m size free → length payload ≤ table_most size → IsWritten m m size (table_most size) free payload payload
-whole_written m size free payload are le =
+-- a payload that is short enough lies whole in its cell
+pub whole_is : (m : PageMap) (size : ℕ) (payload : List ℕ) → length payload ≤ table_most size → IsPayload m size (table_most size) payload payload []
+whole_is m size payload le =
     let all : local_size size (table_most size) (length payload) ≡ length payload = rw (le-leb (length payload) (table_most size) le) refl in
     record {
-      chain = [];
-      now_free = free;
-      is = record {
-        parts = sym (append-nil (take (local_size size (table_most size) (length payload)) payload) ∙ take_all (local_size size (table_most size) (length payload)) payload (omega (arith, all)));
-        chain = drop_all (local_size size (table_most size) (length payload)) payload (omega (arith, all));
-      };
-      has = are.has;
-      moves = none_moves m free;
-      header = same_keeps m m refl;
-      rule = inl refl;
+      parts = sym (append-nil (take (local_size size (table_most size) (length payload)) payload) ∙ take_all (local_size size (table_most size) (length payload)) payload (omega (arith, all)));
+      chain = drop_all (local_size size (table_most size) (length payload)) payload (omega (arith, all));
     }
 
-some_by : (rowid : ℤ) (payload : Option (Vec ℕ)) (bytes : Vec ℕ) → payload ≡ Some bytes
+-- a payload that lies whole in its cell was written there
+pub whole_written : (m : PageMap) (size : ℕ) (free payload : List ℕ) → AreFree m size free → length payload ≤ table_most size → IsWritten m m size (table_most size) free payload payload
+whole_written m size free payload are le = record {
+  chain = [];
+  now_free = free;
+  is = whole_is m size payload le;
+  has = are.has;
+  moves = none_moves m free;
+  header = same_keeps m m refl;
+  rule = inl refl;
+}
+
+pub some_by : (rowid : ℤ) (payload : Option (Vec ℕ)) (bytes : Vec ℕ) → payload ≡ Some bytes
     → entry_for (record { rowid = rowid; payload = payload }) ≡ record { rowid = rowid; payload = bytes.items } ∷ []
 some_by rowid payload bytes e = ap (λ (o : Option (Vec ℕ)). entry_for (record { rowid = rowid; payload = o })) e
 
-room_by : (size : ℕ) (rowid : ℤ) (payload : Option (Vec ℕ)) (bytes : Vec ℕ) → payload ≡ Some bytes
+pub room_by : (size : ℕ) (rowid : ℤ) (payload : Option (Vec ℕ)) (bytes : Vec ℕ) → payload ≡ Some bytes
     → room_for size (record { rowid = rowid; payload = payload }) ≡ min (length bytes.items) (size - 35) + 24
 room_by size rowid payload bytes e = ap (λ (o : Option (Vec ℕ)). room_for size (record { rowid = rowid; payload = o })) e
 
@@ -106,7 +111,7 @@ held_small size long big = by (nat_le long (table_most size)) refl
         (let le = held_le size (table_most size) long (omega (arith, big)) in let m : min long (size - 35) ≡ size - 35 = grind (arith, nat_tests) in
         omega (arith, le, m))
 
-cell_small : (size : ℕ) (cell : List ℕ) (row : ℤ × Local) → 512 ≤ size → IsRowCell size cell row → cell_room cell ≤ min row.1.size (size - 35) + 24
+pub cell_small : (size : ℕ) (cell : List ℕ) (row : ℤ × Local) → 512 ≤ size → IsRowCell size cell row → cell_room cell ≤ min row.1.size (size - 35) + 24
 cell_small size cell row big is =
     omega (
       arith,

@@ -27,7 +27,7 @@ rise_at from count [] i rise lt = absurd (omega (arith, lt))
 rise_at from count (place ∷ places) zero rise lt = rise.1
 rise_at from count (place ∷ places) (suc i) rise lt = rise_at (suc place) count places i rise.2 (omega (arith, lt))
 
-item : ℤ × Local
+abbrev pub item : ℤ × Local
 item = (pos 0, record { size = 0; bytes = [] })
 
 module _ (old : PageMap) (size number ways : ℕ) (rowid low : ℤ) (t : Leaf) (high : ℤ) (free : List ℕ) (under : IsUnder old size number ways rowid zero low t high free)
@@ -74,7 +74,7 @@ module _ (old : PageMap) (size number ways : ℕ) (rowid low : ℤ) (t : Leaf) (
           (given_then old now new size (up_to chain_of i freed) held.pages free given more)
       by_result held slot (Err fault) outside = outside
 
-  none_go_on : (from : ℕ) (ps : List ℕ) → AreRising from (length t.rows) ps
+  pub none_go_on : (from : ℕ) (ps : List ℕ) → AreRising from (length t.rows) ps
       → All (λ place. place < length (under.lies).said → (slice_index_or (under.lies).said place item).1.size ≤ table_most size) ps → flat_map chain_of (picked t.rows ps) ≡ []
   none_go_on from [] rise short = refl
   none_go_on from (place ∷ ps) rise short =

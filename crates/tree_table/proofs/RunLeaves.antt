@@ -39,7 +39,7 @@ use Rattle.tree_table.proofs.RunRows.{IsRunOf, run_few, run_rises, rises_exchang
 use Rattle.tree_table.proofs.Starts.{are_counted, rows_counted, begins_same, no_counts, front_alone}
 use Rattle.tree_table.proofs.Staying.{AreSeen, first_of, payload_stays, says_stays}
 
-start_le : (n : ℕ) → start_of n ≤ 100
+pub start_le : (n : ℕ) → start_of n ≤ 100
 start_le n = grind (arith, common_steps)
 
 chains_same : (rows : List (List NewRow)) → flat_map (λ new. flat_map chain_of new) (map helds_of rows) ≡ new_chains rows
@@ -173,10 +173,17 @@ module _ (old : PageMap) (size number ways : ℕ) (rowid low : ℤ) (t : Leaf) (
     abbrev edited : List Entry
     edited = with_changes (take (length places) changes) (rows_of zero t)
 
-    pub planned : 2 * total (map (room_for size) (take (length places) changes)) ≤ 2 * size → (packed : Packed) (rises : Bool)
-        → Packs TableLeaf (length (page_at new number)) (take (start_of number) (page_at new number)) rises all_cells (Rows new_said) packed
+    pieces_counted : (all : List (List ℕ)) (packed : Packed) (rises : Bool) (packs : Packs TableLeaf (length (page_at new number)) (take (start_of number) (page_at new number)) rises all (Rows new_said) packed)
+        → length packed.pieces.items ≡ length packs.counts
+    pieces_counted all packed rises packs =
+        sym (length-map packed.pieces.items (λ (piece : Piece). piece.divider.items)) ∙ same_length IsKey (divider_bytes packed) _ packs.divide
+        ∙ length-map (row_parts (last_number (pos 0)) packs.counts new_said).0 (λ part. part.1) ∙ rows_counted (last_number (pos 0)) packs.counts new_said
+
+    -- where pages say the new rows, by any cells, they have to take the leaf's place
+    pub planned_as : (all : List (List ℕ)) → length all ≡ length new_said → (packed : Packed) (rises : Bool)
+        → Packs TableLeaf (length (page_at new number)) (take (start_of number) (page_at new number)) rises all (Rows new_said) packed → length packed.pieces.items ≤ 8
         → IsPlanned old new size number zero low high edited (below_of zero t) free packed
-    planned small packed rises packs =
+    planned_as all all_len packed rises packs few =
         let page = page_at new number in
         let start = start_of number in
         let sizes = large_size size under.sized in
@@ -184,13 +191,9 @@ module _ (old : PageMap) (size number ways : ℕ) (rowid low : ℤ) (t : Leaf) (
         let long = long_new in
         let front_len : length (take start page) ≡ start = length-take-le start page (omega (arith, long, sizes.0, near)) in
         let room : ℕ = length page - length (take start page) - 8 - 0 in
-        let cell_len : length (map cell_room all_cells) ≡ length rows =
-        length-map all_cells cell_room ∙ same_length (IsRowCell (length page)) all_cells new_said cells_say.say ∙ same_length (IsHeldAs new size) new_said rows held_rows in
-        let lie = subst (λ (n : ℕ). LieWithin 0 packs.counts n) cell_len (cut_within 0 room rises (map cell_room all_cells) packs.counts packs.cut) in
-        let piece_count : length packed.pieces.items ≡ length packs.counts = (
-        sym (length-map packed.pieces.items (λ (piece : Piece). piece.divider.items)) ∙ same_length IsKey (divider_bytes packed) _ packs.divide
-        ∙ length-map (row_parts (last_number (pos 0)) packs.counts new_said).0 (λ part. part.1) ∙ rows_counted (last_number (pos 0)) packs.counts new_said) in
-        let counted = are_counted packs.counts (length packed.pieces.items) piece_count in
+        let cell_len : length (map cell_room all) ≡ length rows = length-map all cell_room ∙ all_len ∙ same_length (IsHeldAs new size) new_said rows held_rows in
+        let lie = subst (λ (n : ℕ). LieWithin 0 packs.counts n) cell_len (cut_within 0 room rises (map cell_room all) packs.counts packs.cut) in
+        let counted = are_counted packs.counts (length packed.pieces.items) (pieces_counted all packed rises packs) in
         let at = packing.start_of (take start page) packs.counts in
         let rise = rises_exchanged t.rows high 0 changes places w.rows low same under.sorted run w.entries_are in
         let cut = cut_leaf new size at low high packs.counts new_said rows (images packed) held_rows rise lie packs.say in
@@ -207,11 +210,26 @@ module _ (old : PageMap) (size number ways : ℕ) (rowid low : ℤ) (t : Leaf) (
           header = keeps_then old mid new given.header w.header;
           sized = subst (λ (n : ℕ). AllByRecursion (λ image. length image ≡ n) (images packed)) long packs.sized;
           front = λ none. front_alone (take start page) packed.last.items start front_len (packs.front_is (no_counts packs.counts packed.pieces.items counted none));
-          few = (let count = ap length w.cells_are in let mapped = length-map w.rows cells_of in let match = same in
-              let sum = exchanged_room cell_room 0 places cells node_new.cells [] (omega (arith, count, mapped, match)) rising in
-              let fit = cells_fit 13 page start [] node_new.cells node_new.page_is in
-              let new_room = w.room in
-              let most = few_parts 0 room rises (map cell_room all_cells) packs.counts packs.cut (omega (arith, long, front_len, sizes.0, near))
-              (omega (arith, sum, fit, small, new_room, front_len, near, long, sizes.0)) in
-              omega (arith, most, piece_count));
+          few = few;
         }
+
+    pub planned : 2 * total (map (room_for size) (take (length places) changes)) ≤ 2 * size → (packed : Packed) (rises : Bool)
+        → Packs TableLeaf (length (page_at new number)) (take (start_of number) (page_at new number)) rises all_cells (Rows new_said) packed
+        → IsPlanned old new size number zero low high edited (below_of zero t) free packed
+    planned small packed rises packs =
+        let page = page_at new number in
+        let start = start_of number in
+        let sizes = large_size size under.sized in
+        let near = start_le number in
+        let long = long_new in
+        let front_len : length (take start page) ≡ start = length-take-le start page (omega (arith, long, sizes.0, near)) in
+        let room : ℕ = length page - length (take start page) - 8 - 0 in
+        let piece_count = pieces_counted all_cells packed rises packs in
+        let few : length packed.pieces.items ≤ 8 = (let count = ap length w.cells_are in let mapped = length-map w.rows cells_of in let match = same in
+        let sum = exchanged_room cell_room 0 places cells node_new.cells [] (omega (arith, count, mapped, match)) rising in
+        let fit = cells_fit 13 page start [] node_new.cells node_new.page_is in
+        let new_room = w.room in
+        let most = few_parts 0 room rises (map cell_room all_cells) packs.counts packs.cut (omega (arith, long, front_len, sizes.0, near))
+        (omega (arith, sum, fit, small, new_room, front_len, near, long, sizes.0)) in
+        omega (arith, most, piece_count)) in
+        planned_as all_cells (same_length (IsRowCell (length page)) all_cells new_said cells_say.say) packed rises packs few

@@ -18,6 +18,7 @@ use Rattle.tree_pack.specs.Splicing.{spliced, IsUsual, Splices}
 use Rattle.tree_pack.specs.declared.spreading.Packed.{Packed}
 use Rattle.tree_table.specs.Freeing.{AreGivenBack}
 use Rattle.tree_table.specs.Growing.{below_of, IsPlanned, IsUnder, IsEdited, IsThereAt}
+use Rattle.tree_table.specs.Rewriting.{AreRewritten, Rewrites}
 use Rattle.tree_table.specs.Rows.{with_changes, IsLocal}
 use Rattle.tree_table.specs.Runs.{AreRising, AreWritten, Exchanges, FindsRun, FreesRun, IsFirst, IsNoRun, IsRunIn, WritesRows, cell_in, change_in, count_in, exchanged, none_held, picked}
 use Rattle.tree_table.specs.Stepping.{HasRowid}
@@ -31,6 +32,8 @@ use Rattle.tree_table.proofs.LeafRows.{said_there}
 use Rattle.tree_table.proofs.Orders.{same_ids}
 use Rattle.tree_table.proofs.Putting.{usual}
 use Rattle.tree_table.proofs.RunLeaves.{leaf_there, rising, cells_say, new_said, planned, node_new}
+use Rattle.tree_table.proofs.RewrittenLeaves.{leaf_node, rewritten_planned}
+use Rattle.tree_table.proofs.RewrittenRows.{run_take, taken_again}
 use Rattle.tree_table.proofs.RunRows.{IsRunOf, run_held, run_rises, run_local}
 
 is_first : (rowid : ℤ) (changes : List RowChange) → IsFirst rowid changes → (change : RowChange) (rest : List RowChange) → changes ≡ change ∷ rest → change.rowid ≡ rowid
@@ -105,6 +108,29 @@ module _ (old : PageMap) (size number ways : ℕ) (rowid low : ℤ) (t : Leaf) (
             by (Err fault) exchanges = inl (inl (exchanges said (new_said old size number ways rowid low t high free under changes places run mid given new (map cell_in cells) w)
                 (node_new old size number ways rowid low t high free under changes places run mid given new (map cell_in cells) w) (usual size number (page_at new number) (large_size size under.sized) new_there.whole)
                 (rising old size number ways rowid low t high free under changes places run mid given new (map cell_in cells) w) (cells_say old size number ways rowid low t high free under changes places run mid given new (map cell_in cells) w)))
+
+        -- the same, of changes that are these
+        pub made_as : (page : List ℕ) (start : ℕ) (some : List RowChange) (result : Result Packed Fault) → page ≡ page_at new number → start ≡ start_of number → some ≡ take (length places) changes
+            → Exchanges page start places cells result
+            → MatchResult result (λ packed. IsLocal rowid high (with_changes some)
+            × IsPlanned old new size number zero low high (with_changes some (rows_of zero t)) (below_of zero t) free packed) IsOutsideOrFull
+        made_as page start some result page_is start_is some_is exchanges =
+            subst (λ (cs : List RowChange). MatchResult result (λ packed. IsLocal rowid high (with_changes cs)
+            × IsPlanned old new size number zero low high (with_changes cs (rows_of zero t)) (below_of zero t) free packed) IsOutsideOrFull) (sym some_is) (made page start result page_is start_is exchanges)
+
+    -- where the rows are written over, the page has to take the leaf's place
+    pub rewritten_made : (page : List ℕ) (start : ℕ) (some : List RowChange) (packed : Packed) → page ≡ page_at old number → start ≡ start_of number → some ≡ take (length places) changes
+        → Rewrites page start places some (Ok (Some packed))
+        → IsLocal rowid high (with_changes some) × IsPlanned old old size number zero low high (with_changes some (rows_of zero t)) (below_of zero t) free packed
+    rewritten_made page start some packed page_is start_is some_is rewrites =
+        subst (λ (cs : List RowChange). IsLocal rowid high (with_changes cs) × IsPlanned old old size number zero low high (with_changes cs (rows_of zero t)) (below_of zero t) free packed) (sym some_is)
+        (let firsts = take (length places) changes in
+        let by = subst (λ (cs : List RowChange). Rewrites (page_at old number) (start_of number) places cs (Ok (Some packed))) some_is
+        (subst (λ (n : ℕ). Rewrites (page_at old number) n places some (Ok (Some packed))) start_is (subst (λ (bytes : List ℕ). Rewrites bytes start places some (Ok (Some packed))) page_is rewrites)) in
+        let node = leaf_node old size number ways rowid low t high free under changes places run in
+        let done = by said node (run_take 0 said changes places in_leaf.run) in
+        let so = subst (λ (cs : List RowChange). AreRewritten (page_at old number) (start_of number) said node places cs packed.last.items) (taken_again changes (length places)) done.1 in
+        (run_local t.rows high 0 changes places low rowid under.sorted run (is_first rowid changes first), rewritten_planned old size number ways rowid low t high free under changes places run packed done.0 so))
 
 -- ---- the cells of the page, with the new ones
 

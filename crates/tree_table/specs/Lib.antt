@@ -8,6 +8,7 @@ pub mod Laws
 pub mod Lowering
 pub mod Rows
 pub mod Runs
+pub mod Rewriting
 pub mod Scanning
 pub mod SingleLeaf
 pub mod Stepping

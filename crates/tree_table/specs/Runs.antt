@@ -163,6 +163,23 @@ Exchanges page start places cells result = (said rows : List (ℤ × Local)) (is
     → MatchResult result (λ packed. (rises : Bool)
     × Packs TableLeaf (length page) (take start page) rises (exchanged 0 places (map cell_in cells) is.cells) (Rows rows) packed) (λ fault. fault ≡ Memory)
 
+-- In a tree's leaf the first change's row stands at a place, and a run of these changes, the first of all, at these places.
+pub record IsRunUnder (old : PageMap) (size number ways : ℕ) (rowid low : ℤ) (t : Leaf) (high : ℤ) (free : List ℕ) (all changes : List RowChange) (places : List ℕ) : Type 0 where
+  pub under : IsUnder old size number ways rowid 0 low t high free
+  pub first : IsFirst rowid all
+  pub place : ℕ
+  pub within : place < length t.rows
+  pub same : (d : Held) → (slice_index_or t.rows place d).row.rowid ≡ rowid
+  pub run : IsRunIn size (under.lies).said all places
+  pub made : changes ≡ take (length places) all
+
+-- where this is so, packed pages have to take the leaf's place, after these changes
+abbrev pub ExchangesLeaf : PageMap → PageMap → ℕ → ℕ → List ℕ → List RowChange → Result Packed Fault → Type 0
+ExchangesLeaf old new size number places changes result = (ways : ℕ) (rowid low : ℤ) (t : Leaf) (high : ℤ) (free : List ℕ) (all : List RowChange)
+    → IsRunUnder old size number ways rowid low t high free all changes places
+    → MatchResult result (λ packed. IsLocal rowid high (with_changes changes)
+    × IsPlanned old new size number 0 low high (with_changes changes (rows_of 0 t)) (below_of 0 t) free packed) IsOutsideOrFull
+
 -- where a leaf has the first change's row at a place, packed pages have to take its place, after some of the changes
 abbrev pub ChangesLeaf : PageMap → PageMap → ℕ → ℕ → ℕ → List RowChange → Result (ℕ × Packed) Fault → Type 0
 ChangesLeaf old new size number place changes result = (ways : ℕ) (rowid low : ℤ) (t : Leaf) (high : ℤ) (free : List ℕ)

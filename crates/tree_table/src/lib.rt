@@ -14,6 +14,7 @@ mod laws;
 mod leaf;
 mod lowering;
 mod reading;
+mod rewriting;
 mod runs;
 mod scanning;
 mod way;

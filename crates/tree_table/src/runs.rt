@@ -5,7 +5,7 @@ ghost use Rattle.sqlval.specs.Faults.{IsNotDiskFault};
 ghost use Rattle.pages.specs.Calls.{Causes};
 ghost use Rattle.pages.specs.Counting as counting;
 ghost use Rattle.tree_page.specs.Node.{Local, Rows, IsNode};
-ghost use Rattle.tree_table.specs.Runs.{AppendsRow, ChangesBelow, ChangesLeaf, Exchanges, FindsPlace, FindsRun, FreesRun, IsFirst, room_for, WritesRow, WritesRows};
+ghost use Rattle.tree_table.specs.Runs.{AppendsRow, ChangesBelow, ChangesLeaf, Exchanges, ExchangesLeaf, FindsPlace, FindsRun, FreesRun, IsFirst, room_for, WritesRow, WritesRows};
 ghost use Rattle.tree_table.specs.Stepping.{HasRowid};
 
 use crate::changing::RowChange;
@@ -14,6 +14,7 @@ use crate::freeing::free_row;
 use crate::growing::Change;
 use crate::joining::narrowed;
 use crate::leaf::start_of;
+use crate::rewriting::rewritten;
 use pages::WritePages;
 use sqlval::{Damage, Fault, R};
 use std::alloc::Global;
@@ -249,6 +250,35 @@ fn exchange(
     splice(alloc, bytes, start, first, count, all.as_slice(), None)
 }
 
+/// The pages that a leaf gives way to when the rows of a run are changed, which stand at these places. The old rows' overflow pages are given back,
+/// the new payloads are written, the pages aren't.
+fn exchanged_leaf<P: WritePages>(
+    alloc: Global,
+    pages: &mut P,
+    number: u32,
+    places: &[usize],
+    changes: &[RowChange],
+) -> R<Packed>
+    requires { length places.now ≡ length changes.now }
+    ensures exchanged { IsTrue (P.Pages.tells (P.Pages.below pages.old))
+        → ExchangesLeaf (P.Pages.map pages.old) (P.Pages.map pages.new)
+        (P.Pages.limits (P.Pages.below pages.old)).page number places.now changes.now result }
+    ensures kept { P.Pages.below pages.new ≡ P.Pages.below pages.old }
+    ensures causes { Causes result (P.Pages.failures pages.old) (P.Pages.failures pages.new)
+        (P.Pages.count pages.new ≡ (P.Pages.limits (P.Pages.below pages.new)).most) }
+{
+    free_run(alloc, pages, number, places)?;
+    let cells = write_rows(alloc, pages, changes)?;
+    pages.load(number)?;
+    exchange(
+        alloc,
+        pages.loaded(),
+        start_of(number),
+        places,
+        cells.as_slice(),
+    )
+}
+
 /// The pages that a leaf gives way to when the rows of a run are changed, the first of which stands at this place, and how many changes were
 /// made. The old rows' overflow pages are given back, the new payloads are written, the pages aren't.
 fn changed_leaf<P: WritePages>(
@@ -268,18 +298,14 @@ fn changed_leaf<P: WritePages>(
         (P.Pages.count pages.new ≡ (P.Pages.limits (P.Pages.below pages.new)).most) }
 {
     pages.load(number)?;
-    let places = run_in(alloc, pages.loaded(), start_of(number), place, changes)?;
-    free_run(alloc, pages, number, places.as_slice())?;
+    let start = start_of(number);
+    let places = run_in(alloc, pages.loaded(), start, place, changes)?;
     let count = places.len();
-    let cells = write_rows(alloc, pages, &changes[..count])?;
-    pages.load(number)?;
-    let packed = exchange(
-        alloc,
-        pages.loaded(),
-        start_of(number),
-        places.as_slice(),
-        cells.as_slice(),
-    )?;
+    let (made, _) = changes.split_at(count);
+    if let Some(packed) = rewritten(alloc, pages.loaded(), start, places.as_slice(), made)? {
+        return Ok((count, packed));
+    }
+    let packed = exchanged_leaf(alloc, pages, number, places.as_slice(), made)?;
     Ok((count, packed))
 }
 

@@ -1,12 +1,15 @@
-use Rattle.std.proofs.Common.{rules, ◌≡◌, ◌∙◌, ℕ, List, length, take, IsTrue, Ok, Err, inl, sym, subst}
-use Rattle.pages.specs.Map.{PageMap, page_at, IsThere}
+use Rattle.std.proofs.Common.{rules, ◌≡◌, ◌∙◌, ℕ, List, length, take, IsTrue, Ok, Err, Option, Some, inl, sym, ap, subst}
+use Rattle.pages.specs.Map.{PageMap, page_at}
+use Rattle.tree_pack.specs.declared.spreading.Packed.{Packed}
 use Rattle.tree_table.specs.Growing.{below_of, IsPlanned}
 use Rattle.tree_table.specs.Rows.{with_changes, IsLocal}
-use Rattle.tree_table.specs.Runs.{Exchanges, FreesRun, WritesRows}
+use Rattle.tree_table.specs.Runs.{ExchangesLeaf, IsRunUnder}
+use Rattle.tree_table.specs.Rewriting.{Rewrites}
 use Rattle.tree_table.specs.Tree.{rows_of}
+use Rattle.tree_table.specs.declared.changing.RowChange.{RowChange}
 use Rattle.tree_table.proofs.Descents.{since}
 use Rattle.tree_table.proofs.Exits.{full_err, outside_full}
-use Rattle.tree_table.proofs.RunMade.{old_there, found, freed, written, new_there, made}
+use Rattle.tree_table.proofs.RunMade.{old_there, found, rewritten_made}
 use Rattle.tree_table.proofs.runs.changed_leaf.Goals as goal
 
 pub returns-in_err-load-clause-changed : goal.returns-in_err-load-clause-changed
@@ -31,10 +34,10 @@ returns-in_err-places-clause-changed g c = λ told ways rowid low t high free un
     let changes = c.args.changes.now in
     let read : c.loaded.result.now ≡ page_at old number = c.loaded.ensures ∙ c.in_ok-load.ensures.bytes told in
     outside_full _ c.from_residual-in_err-places.result c.in_err-places.field-0.0 c.from_residual-in_err-places.ensures.1
-    (inl (found old size number ways rowid low t high free under changes first place lt same c.loaded.result.now c.start_of.result (Err c.in_err-places.field-0.0) read c.start_of.ensures c.in_err-places.ensures.found)))
+    (inl (found old size number ways rowid low t high free under changes first place lt same c.loaded.result.now c.start_of-start.result (Err c.in_err-places.field-0.0) read c.start_of-start.ensures c.in_err-places.ensures.found)))
 
-pub returns-in_err-free_run-clause-changed : goal.returns-in_err-free_run-clause-changed
-returns-in_err-free_run-clause-changed g c = λ told ways rowid low t high free under first lt same.
+pub returns-in-Some-clause-changed : goal.returns-in-Some-clause-changed
+returns-in-Some-clause-changed g c = λ told ways rowid low t high free under first lt same.
     (let gs = g.P.Pages in
     let pages = c.args.pages.now in
     let old = gs.map pages in
@@ -45,41 +48,22 @@ returns-in_err-free_run-clause-changed g c = λ told ways rowid low t high free 
     let read : c.loaded.result.now ≡ page_at old number = c.loaded.ensures ∙ c.in_ok-load.ensures.bytes told in
     let stays = c.in_ok-load.ensures.stays in
     let places = c.in_ok-places.places.items in
-    let run = found old size number ways rowid low t high free under changes first place lt same c.loaded.result.now c.start_of.result (Ok c.in_ok-places.places) read c.start_of.ensures c.in_ok-places.ensures.found in
-    let mid = gs.map c.free_run.new.pages in
-    let frees = subst (λ (ps : List ℕ). FreesRun old mid size number ps (Err c.in_err-free_run.field-0.0)) c.as_slice.ensures.value
-    (since gs.below gs.tells gs.limits gs.map pages c.load.new.self (λ (m : PageMap) (n : ℕ). FreesRun m mid n number c.as_slice.result.now (Err c.in_err-free_run.field-0.0)) stays.kept stays.same c.in_err-free_run.ensures.freed told) in
-    outside_full _ c.from_residual-in_err-free_run.result c.in_err-free_run.field-0.0 c.from_residual-in_err-free_run.ensures.1
-    (freed old size number ways rowid low t high free under changes first place lt same places run mid (Err c.in_err-free_run.field-0.0) frees))
-
-pub returns-in_err-cells-clause-changed : goal.returns-in_err-cells-clause-changed
-returns-in_err-cells-clause-changed g c = λ told ways rowid low t high free under first lt same.
-    (let gs = g.P.Pages in
-    let pages = c.args.pages.now in
-    let old = gs.map pages in
-    let size = (gs.limits (gs.below pages)).page in
-    let number = c.args.number in
-    let place = c.args.place in
-    let changes = c.args.changes.now in
-    let read : c.loaded.result.now ≡ page_at old number = c.loaded.ensures ∙ c.in_ok-load.ensures.bytes told in
-    let stays = c.in_ok-load.ensures.stays in
-    let places = c.in_ok-places.places.items in
-    let run = found old size number ways rowid low t high free under changes first place lt same c.loaded.result.now c.start_of.result (Ok c.in_ok-places.places) read c.start_of.ensures c.in_ok-places.ensures.found in
-    let mid = gs.map c.free_run.new.pages in
-    let frees = subst (λ (ps : List ℕ). FreesRun old mid size number ps (Ok tt)) c.as_slice.ensures.value
-    (since gs.below gs.tells gs.limits gs.map pages c.load.new.self (λ (m : PageMap) (n : ℕ). FreesRun m mid n number c.as_slice.result.now (Ok tt)) stays.kept stays.same c.in_ok-free_run.ensures.freed told) in
-    let given = freed old size number ways rowid low t high free under changes first place lt same places run mid (Ok tt) frees in
-    let kept = c.in_ok-free_run.ensures.kept ∙ stays.kept in
-    let told_mid = subst (λ k. IsTrue (gs.tells k)) (sym kept) told in
-    let new = gs.map c.write_rows.new.pages in
+    let run = found old size number ways rowid low t high free under changes first place lt same c.loaded.result.now c.start_of-start.result (Ok c.in_ok-places.places) read c.start_of-start.ensures c.in_ok-places.ensures.found in
     let count : c.len-count.result ≡ length places = search rules in
-    let writes = subst (λ (n : ℕ). WritesRows mid new size (take n changes) (Err c.in_err-cells.field-0.0)) count
-    (subst (λ k. WritesRows mid new (gs.limits k).page (take c.len-count.result changes) (Err c.in_err-cells.field-0.0)) kept (c.in_err-cells.ensures.written told_mid)) in
-    full_err _ c.from_residual-in_err-cells.result c.in_err-cells.field-0.0 c.from_residual-in_err-cells.ensures.1
-    (written old size number ways rowid low t high free under changes first place lt same places run mid given new (Err c.in_err-cells.field-0.0) writes))
+    let front : c.split_at.result.0.now ≡ take c.len-count.result changes = c.split_at.ensures.front in
+    let made : c.split_at.result.0.now ≡ take (length places) changes = front ∙ ap (λ (n : ℕ). take n changes) count in
+    let so : Rewrites c.loaded-2.result.now c.start_of-start.result places c.split_at.result.0.now (Ok (Some c.in-Some.packed)) =
+    subst (λ (ps : List ℕ). Rewrites c.loaded-2.result.now c.start_of-start.result ps c.split_at.result.0.now (Ok (Some c.in-Some.packed))) c.as_slice.ensures.value
+    (subst (λ (o : Option Packed). Rewrites c.loaded-2.result.now c.start_of-start.result c.as_slice.result.now c.split_at.result.0.now (Ok o)) c.in-Some.is c.in_ok-packed.ensures.rewritten) in
+    let again : c.loaded-2.result.now ≡ page_at old number = c.loaded-2.ensures ∙ c.in_ok-load.ensures.bytes told in
+    let done = rewritten_made old size number ways rowid low t high free under changes first place lt same places run c.loaded-2.result.now c.start_of-start.result c.split_at.result.0.now c.in-Some.packed again c.start_of-start.ensures made so in
+    subst (λ (cs : List RowChange). IsLocal rowid high (with_changes cs)
+    × IsPlanned old (gs.map c.load.new.self) size number 0 low high (with_changes cs (rows_of 0 t)) (below_of 0 t) free c.in-Some.packed) front
+    (subst (λ (m : PageMap). IsLocal rowid high (with_changes c.split_at.result.0.now)
+    × IsPlanned old m size number 0 low high (with_changes c.split_at.result.0.now (rows_of 0 t)) (below_of 0 t) free c.in-Some.packed) (sym stays.same) done))
 
-pub returns-in_err-load-2-clause-changed : goal.returns-in_err-load-2-clause-changed
-returns-in_err-load-2-clause-changed g c = λ told ways rowid low t high free under first lt same.
+pub returns-in_err-packed-2-clause-changed : goal.returns-in_err-packed-2-clause-changed
+returns-in_err-packed-2-clause-changed g c = λ told ways rowid low t high free under first lt same.
     (let gs = g.P.Pages in
     let pages = c.args.pages.now in
     let old = gs.map pages in
@@ -90,58 +74,14 @@ returns-in_err-load-2-clause-changed g c = λ told ways rowid low t high free un
     let read : c.loaded.result.now ≡ page_at old number = c.loaded.ensures ∙ c.in_ok-load.ensures.bytes told in
     let stays = c.in_ok-load.ensures.stays in
     let places = c.in_ok-places.places.items in
-    let run = found old size number ways rowid low t high free under changes first place lt same c.loaded.result.now c.start_of.result (Ok c.in_ok-places.places) read c.start_of.ensures c.in_ok-places.ensures.found in
-    let mid = gs.map c.free_run.new.pages in
-    let frees = subst (λ (ps : List ℕ). FreesRun old mid size number ps (Ok tt)) c.as_slice.ensures.value
-    (since gs.below gs.tells gs.limits gs.map pages c.load.new.self (λ (m : PageMap) (n : ℕ). FreesRun m mid n number c.as_slice.result.now (Ok tt)) stays.kept stays.same c.in_ok-free_run.ensures.freed told) in
-    let given = freed old size number ways rowid low t high free under changes first place lt same places run mid (Ok tt) frees in
-    let kept = c.in_ok-free_run.ensures.kept ∙ stays.kept in
-    let told_mid = subst (λ k. IsTrue (gs.tells k)) (sym kept) told in
-    let new = gs.map c.write_rows.new.pages in
+    let run = found old size number ways rowid low t high free under changes first place lt same c.loaded.result.now c.start_of-start.result (Ok c.in_ok-places.places) read c.start_of-start.ensures c.in_ok-places.ensures.found in
     let count : c.len-count.result ≡ length places = search rules in
-    let writes = subst (λ (n : ℕ). WritesRows mid new size (take n changes) (Ok c.in_ok-cells.cells)) count
-    (subst (λ k. WritesRows mid new (gs.limits k).page (take c.len-count.result changes) (Ok c.in_ok-cells.cells)) kept (c.in_ok-cells.ensures.written told_mid)) in
-    let w = written old size number ways rowid low t high free under changes first place lt same places run mid given new (Ok c.in_ok-cells.cells) writes in
-    let kept_new = c.in_ok-cells.ensures.kept ∙ kept in
-    let told_new = subst (λ k. IsTrue (gs.tells k)) (sym kept_new) told in
-    let cells = c.in_ok-cells.cells.items in
-    let there = new_there old size number ways rowid low t high free under changes first place lt same places run mid given new cells w in
-    outside_full _ c.from_residual-in_err-load-2.result c.in_err-load-2.field-0.0 c.from_residual-in_err-load-2.ensures.1
-    (c.in_err-load-2.ensures.refusal told_new (subst (λ k. IsThere new (gs.limits k).page number) (sym kept_new) there)))
-
-pub returns-in_err-packed-clause-changed : goal.returns-in_err-packed-clause-changed
-returns-in_err-packed-clause-changed g c = λ told ways rowid low t high free under first lt same.
-    (let gs = g.P.Pages in
-    let pages = c.args.pages.now in
-    let old = gs.map pages in
-    let size = (gs.limits (gs.below pages)).page in
-    let number = c.args.number in
-    let place = c.args.place in
-    let changes = c.args.changes.now in
-    let read : c.loaded.result.now ≡ page_at old number = c.loaded.ensures ∙ c.in_ok-load.ensures.bytes told in
-    let stays = c.in_ok-load.ensures.stays in
-    let places = c.in_ok-places.places.items in
-    let run = found old size number ways rowid low t high free under changes first place lt same c.loaded.result.now c.start_of.result (Ok c.in_ok-places.places) read c.start_of.ensures c.in_ok-places.ensures.found in
-    let mid = gs.map c.free_run.new.pages in
-    let frees = subst (λ (ps : List ℕ). FreesRun old mid size number ps (Ok tt)) c.as_slice.ensures.value
-    (since gs.below gs.tells gs.limits gs.map pages c.load.new.self (λ (m : PageMap) (n : ℕ). FreesRun m mid n number c.as_slice.result.now (Ok tt)) stays.kept stays.same c.in_ok-free_run.ensures.freed told) in
-    let given = freed old size number ways rowid low t high free under changes first place lt same places run mid (Ok tt) frees in
-    let kept = c.in_ok-free_run.ensures.kept ∙ stays.kept in
-    let told_mid = subst (λ k. IsTrue (gs.tells k)) (sym kept) told in
-    let new = gs.map c.write_rows.new.pages in
-    let count : c.len-count.result ≡ length places = search rules in
-    let writes = subst (λ (n : ℕ). WritesRows mid new size (take n changes) (Ok c.in_ok-cells.cells)) count
-    (subst (λ k. WritesRows mid new (gs.limits k).page (take c.len-count.result changes) (Ok c.in_ok-cells.cells)) kept (c.in_ok-cells.ensures.written told_mid)) in
-    let w = written old size number ways rowid low t high free under changes first place lt same places run mid given new (Ok c.in_ok-cells.cells) writes in
-    let kept_new = c.in_ok-cells.ensures.kept ∙ kept in
-    let told_new = subst (λ k. IsTrue (gs.tells k)) (sym kept_new) told in
-    let cells = c.in_ok-cells.cells.items in
-    let there = new_there old size number ways rowid low t high free under changes first place lt same places run mid given new cells w in
-    let read_new : c.loaded-2.result.now ≡ page_at new number = c.loaded-2.ensures ∙ c.in_ok-load-2.ensures.bytes told_new in
-    let exchanges = subst (λ (ps : List ℕ). Exchanges c.loaded-2.result.now c.start_of-2.result ps cells (Err c.in_err-packed.field-0.0)) c.as_slice-2.ensures.value
-    (subst (λ cs. Exchanges c.loaded-2.result.now c.start_of-2.result c.as_slice-2.result.now cs (Err c.in_err-packed.field-0.0)) c.as_slice-3.ensures.value c.in_err-packed.ensures.exchanged) in
-    let done = made old size number ways rowid low t high free under changes first place lt same places run mid given new cells w c.loaded-2.result.now c.start_of-2.result (Err c.in_err-packed.field-0.0) read_new c.start_of-2.ensures exchanges in
-    full_err _ c.from_residual-in_err-packed.result c.in_err-packed.field-0.0 c.from_residual-in_err-packed.ensures.1 done)
+    let front : c.split_at.result.0.now ≡ take c.len-count.result changes = c.split_at.ensures.front in
+    let made : c.split_at.result.0.now ≡ take (length places) changes = front ∙ ap (λ (n : ℕ). take n changes) count in
+    let so : IsRunUnder old size number ways rowid low t high free changes c.split_at.result.0.now places = record { under = under; first = first; place = place; within = lt; same = same; run = run; made = made } in
+    let leaf = subst (λ (ps : List ℕ). IsTrue (gs.tells (gs.below pages)) → ExchangesLeaf old (gs.map c.exchanged_leaf.new.pages) size number ps c.split_at.result.0.now (Err c.in_err-packed-2.field-0.0)) c.as_slice-2.ensures.value
+    (λ told. since gs.below gs.tells gs.limits gs.map pages c.load.new.self (λ (m : PageMap) (n : ℕ). ExchangesLeaf m (gs.map c.exchanged_leaf.new.pages) n number c.as_slice-2.result.now c.split_at.result.0.now (Err c.in_err-packed-2.field-0.0)) stays.kept stays.same c.in_err-packed-2.ensures.exchanged told) in
+    full_err _ c.from_residual-in_err-packed-2.result c.in_err-packed-2.field-0.0 c.from_residual-in_err-packed-2.ensures.1 (leaf told ways rowid low t high free changes so))
 
 pub returns-clause-changed : goal.returns-clause-changed
 returns-clause-changed g c = λ told ways rowid low t high free under first lt same.
@@ -155,27 +95,13 @@ returns-clause-changed g c = λ told ways rowid low t high free under first lt s
     let read : c.loaded.result.now ≡ page_at old number = c.loaded.ensures ∙ c.in_ok-load.ensures.bytes told in
     let stays = c.in_ok-load.ensures.stays in
     let places = c.in_ok-places.places.items in
-    let run = found old size number ways rowid low t high free under changes first place lt same c.loaded.result.now c.start_of.result (Ok c.in_ok-places.places) read c.start_of.ensures c.in_ok-places.ensures.found in
-    let mid = gs.map c.free_run.new.pages in
-    let frees = subst (λ (ps : List ℕ). FreesRun old mid size number ps (Ok tt)) c.as_slice.ensures.value
-    (since gs.below gs.tells gs.limits gs.map pages c.load.new.self (λ (m : PageMap) (n : ℕ). FreesRun m mid n number c.as_slice.result.now (Ok tt)) stays.kept stays.same c.in_ok-free_run.ensures.freed told) in
-    let given = freed old size number ways rowid low t high free under changes first place lt same places run mid (Ok tt) frees in
-    let kept = c.in_ok-free_run.ensures.kept ∙ stays.kept in
-    let told_mid = subst (λ k. IsTrue (gs.tells k)) (sym kept) told in
-    let new = gs.map c.write_rows.new.pages in
+    let run = found old size number ways rowid low t high free under changes first place lt same c.loaded.result.now c.start_of-start.result (Ok c.in_ok-places.places) read c.start_of-start.ensures c.in_ok-places.ensures.found in
     let count : c.len-count.result ≡ length places = search rules in
-    let writes = subst (λ (n : ℕ). WritesRows mid new size (take n changes) (Ok c.in_ok-cells.cells)) count
-    (subst (λ k. WritesRows mid new (gs.limits k).page (take c.len-count.result changes) (Ok c.in_ok-cells.cells)) kept (c.in_ok-cells.ensures.written told_mid)) in
-    let w = written old size number ways rowid low t high free under changes first place lt same places run mid given new (Ok c.in_ok-cells.cells) writes in
-    let kept_new = c.in_ok-cells.ensures.kept ∙ kept in
-    let told_new = subst (λ k. IsTrue (gs.tells k)) (sym kept_new) told in
-    let cells = c.in_ok-cells.cells.items in
-    let there = new_there old size number ways rowid low t high free under changes first place lt same places run mid given new cells w in
-    let read_new : c.loaded-2.result.now ≡ page_at new number = c.loaded-2.ensures ∙ c.in_ok-load-2.ensures.bytes told_new in
-    let exchanges = subst (λ (ps : List ℕ). Exchanges c.loaded-2.result.now c.start_of-2.result ps cells (Ok c.in_ok-packed.packed)) c.as_slice-2.ensures.value
-    (subst (λ cs. Exchanges c.loaded-2.result.now c.start_of-2.result c.as_slice-2.result.now cs (Ok c.in_ok-packed.packed)) c.as_slice-3.ensures.value c.in_ok-packed.ensures.exchanged) in
-    let done = made old size number ways rowid low t high free under changes first place lt same places run mid given new cells w c.loaded-2.result.now c.start_of-2.result (Ok c.in_ok-packed.packed) read_new c.start_of-2.ensures exchanges in
-    subst (λ (n : ℕ). IsLocal rowid high (with_changes (take n changes))
-    × IsPlanned old (gs.map c.load-2.new.self) size number 0 low high (with_changes (take n changes) (rows_of 0 t)) (below_of 0 t) free c.in_ok-packed.packed) (sym count)
-    (subst (λ (m : PageMap). IsLocal rowid high (with_changes (take (length places) changes))
-    × IsPlanned old m size number 0 low high (with_changes (take (length places) changes) (rows_of 0 t)) (below_of 0 t) free c.in_ok-packed.packed) (sym (c.in_ok-load-2.ensures.stays).same) done))
+    let front : c.split_at.result.0.now ≡ take c.len-count.result changes = c.split_at.ensures.front in
+    let made : c.split_at.result.0.now ≡ take (length places) changes = front ∙ ap (λ (n : ℕ). take n changes) count in
+    let so : IsRunUnder old size number ways rowid low t high free changes c.split_at.result.0.now places = record { under = under; first = first; place = place; within = lt; same = same; run = run; made = made } in
+    let leaf = subst (λ (ps : List ℕ). IsTrue (gs.tells (gs.below pages)) → ExchangesLeaf old (gs.map c.exchanged_leaf.new.pages) size number ps c.split_at.result.0.now (Ok c.in_ok-packed-2.packed)) c.as_slice-2.ensures.value
+    (λ told. since gs.below gs.tells gs.limits gs.map pages c.load.new.self (λ (m : PageMap) (n : ℕ). ExchangesLeaf m (gs.map c.exchanged_leaf.new.pages) n number c.as_slice-2.result.now c.split_at.result.0.now (Ok c.in_ok-packed-2.packed)) stays.kept stays.same c.in_ok-packed-2.ensures.exchanged told) in
+    subst (λ (cs : List RowChange). IsLocal rowid high (with_changes cs)
+    × IsPlanned old (gs.map c.exchanged_leaf.new.pages) size number 0 low high (with_changes cs (rows_of 0 t)) (below_of 0 t) free c.in_ok-packed-2.packed) front
+    (leaf told ways rowid low t high free changes so))
