@@ -4,12 +4,12 @@ ghost use Rattle.std.specs.Prelude.{◌≡◌, ◌+ℤ◌, pos, Some, IsTrue, If
 ghost use Rattle.pages.specs.Calls.{Stays};
 ghost use Rattle.tree_table.specs.Calls.{FindsLast, FindsRow};
 
-use crate::reading::{is_row_at, last_row, read_row};
+use crate::reading::{is_row_at, last_row, read_next_row};
 use crate::way::find_leaf;
 use pages::Pages;
 use sqlval::{Fault, R};
 
-/// Puts the payload of the row of this rowid behind what `out` has, and answers whether there is one. (`Memory`, `Io`;
+/// Puts the payload of the row of this rowid behind what `out` has, and answers whether there is one. Each page on the way is loaded once. (`Memory`, `Io`;
 /// `Damaged(Depth, root)` if a way has more than 20 pages; `Damaged` for pages that are none of a table's tree; what `load` and
 /// `read_payload` refuse.)
 pub fn get<P: Pages>(pages: &mut P, root: u32, rowid: i64, out: &mut Vec<u8>) -> R<bool>
@@ -22,7 +22,7 @@ pub fn get<P: Pages>(pages: &mut P, root: u32, rowid: i64, out: &mut Vec<u8>) ->
     if !is_row_at(pages, end.way.page, end.place, rowid)? {
         return Ok(false);
     }
-    read_row(pages, end.way.page, end.place, out)?;
+    read_next_row(pages, end.way.page, end.place, out)?;
     Ok(true)
 }
 

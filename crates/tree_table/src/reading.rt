@@ -93,14 +93,14 @@ pub fn last_row<P: Pages>(pages: &mut P, leaf: u32) -> R<Option<i64>>
     }
 }
 
-/// Whether the row at a place of a leaf has this rowid. (What `load` refuses; `Damaged` for one that is no page of a tree.)
-pub fn is_row_at<P: Pages>(pages: &mut P, leaf: u32, place: usize, rowid: i64) -> R<bool>
-    ensures found { IsTrue (P.Pages.tells (P.Pages.below pages.old))
-        → FindsRowid (P.Pages.map pages.old) (P.Pages.limits (P.Pages.below pages.old)).page leaf
+/// Whether the row at a place of a leaf that was loaded last has this rowid. (`Damaged` for one that is no page of a tree.)
+pub fn is_row_at<P: Pages>(pages: &P, leaf: u32, place: usize, rowid: i64) -> R<bool>
+    ensures found { IsTrue (P.Pages.tells (P.Pages.below pages.now))
+        → P.Pages.held pages.now ≡ page_at (P.Pages.map pages.now) leaf
+        → FindsRowid (P.Pages.map pages.now) (P.Pages.limits (P.Pages.below pages.now)).page leaf
         place rowid result }
-    ensures stays { Stays P.Pages.below P.Pages.map P.Pages.count P.Pages.failures result pages.old pages.new }
+    ensures not_disk { IfErr result IsNotDiskFault }
 {
-    pages.load(leaf)?;
     match is_row_in(pages.loaded(), leaf, place, rowid) {
         Ok(there) => Ok(there),
         Err(fault) => Err(at_page(fault, leaf)),

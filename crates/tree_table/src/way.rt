@@ -1,9 +1,10 @@
 //! The way from a tree's root down to the leaf where a rowid belongs.
 
-ghost use Rattle.std.specs.Prelude.{◌≡◌, ℕ, ℤ, Ok, Some, IsTrue, IfOk, IfErr, List, length, map};
+ghost use Rattle.std.specs.Prelude.{◌≡◌, ℕ, ℤ, Ok, Some, IsTrue, IfOk, IfErr, OnOk, List, length, map};
 ghost use Rattle.sqlval.specs.Faults.{IsNotDiskFault};
 ghost use Rattle.pages.specs.Calls.{Stays};
 ghost use Rattle.pages.specs.Counting as counting;
+ghost use Rattle.pages.specs.Map.{page_at};
 ghost use Rattle.tree_page.specs.Node.{Node, Keys, IsNode};
 ghost use Rattle.tree_page.specs.Reading.{NeverFall, below, numbers_of};
 ghost use Rattle.tree_table.specs.Ways.{left_for, way_for, step_for, IsAbout, IsStepAbout, FindsStep, FindsLeaf};
@@ -131,6 +132,8 @@ fn step_from<P: Pages>(pages: &mut P, way: Way, rowid: i64) -> R<Step>
     ensures found { IsTrue (P.Pages.tells (P.Pages.below pages.old))
         → FindsStep (P.Pages.map pages.old) (P.Pages.limits (P.Pages.below pages.old)).page way rowid result }
     ensures about { IfOk result (IsStepAbout rowid) }
+    ensures held { IsTrue (P.Pages.tells (P.Pages.below pages.old))
+        → OnOk result (P.Pages.held pages.new ≡ page_at (P.Pages.map pages.old) way.page) }
     ensures stays { Stays P.Pages.below P.Pages.map P.Pages.count P.Pages.failures result pages.old pages.new }
 {
     pages.load(way.page)?;
@@ -146,6 +149,9 @@ pub fn find_leaf<P: Pages>(pages: &mut P, root: u32, rowid: i64) -> R<End>
     ensures found { IsTrue (P.Pages.tells (P.Pages.below pages.old))
         → FindsLeaf (P.Pages.map pages.old) (P.Pages.limits (P.Pages.below pages.old)).page root rowid result }
     ensures about { IfOk result (λ end. IsAbout rowid end.way) }
+    // The leaf is loaded then.
+    ensures held { IsTrue (P.Pages.tells (P.Pages.below pages.old))
+        → IfOk result (λ end. P.Pages.held pages.new ≡ page_at (P.Pages.map pages.old) end.way.page) }
     ensures stays { Stays P.Pages.below P.Pages.map P.Pages.count P.Pages.failures result pages.old pages.new }
 {
     let mut way = Way {

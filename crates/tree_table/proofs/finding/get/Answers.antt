@@ -1,6 +1,6 @@
-use Rattle.std.proofs.Common.{◌∙◌, ℕ, ℤ, pos, Ok, Err, Option, refl, sym, subst, w64, List, [], true, false}
+use Rattle.std.proofs.Common.{◌∙◌, ℕ, ℤ, pos, Ok, Err, Option, refl, sym, ap, subst, w64, List, [], true, false}
 use Rattle.std.proofs.lemmas.Int.{to_z-of_z}
-use Rattle.pages.specs.Map.{PageMap}
+use Rattle.pages.specs.Map.{PageMap, page_at}
 use Rattle.tree_table.specs.Calls.{IsFound}
 use Rattle.tree_table.specs.Tree.{Held}
 use Rattle.tree_table.specs.Ways.{FindsLeaf, ReadsRow}
@@ -19,10 +19,11 @@ returns-in_err-is_row_at-clause-found g c = λ told rows used whole tree.
     (let gs = g.P.Pages in
     let end = c.in_ok-end.ensures.found told rows used whole tree in
     let stays = c.in_ok-end.ensures.stays in
+    let held = c.in_ok-end.ensures.held told ∙ ap (λ (m : PageMap). page_at m c.in_ok-end.end.way.page) (sym stays.same) in
     let plain = to_z-of_z w64 c.args.rowid c.ranges.rowid in
     refused _ _ c.in_err-is_row_at.field-0.0 c.from_residual-in_err-is_row_at.ensures.1
     (rowid_since gs.below gs.tells gs.limits gs.map c.args.pages.now c.find_leaf.new.pages c.in_ok-end.end.way.page c.in_ok-end.end.place c.args.rowid _ (Err c.in_err-is_row_at.field-0.0) plain
-    stays.kept stays.same c.in_err-is_row_at.ensures.found told end.under.t whole end.under.lies end.under.at))
+    stays.kept stays.same (λ telling. c.in_err-is_row_at.ensures.found telling held) told end.under.t whole end.under.lies end.under.at))
 
 pub returns-then-not-branch-clause-found : goal.returns-then-not-branch-clause-found
 returns-then-not-branch-clause-found g c = λ told rows used whole tree.
@@ -32,25 +33,26 @@ returns-then-not-branch-clause-found g c = λ told rows used whole tree.
     let plain = to_z-of_z w64 c.args.rowid c.ranges.rowid in
     let end = subst (λ (z : ℤ). FindsLeaf pages size c.args.root z (Ok c.in_ok-end.end)) plain (c.in_ok-end.ensures.found told) rows used whole tree in
     let stays = c.in_ok-end.ensures.stays in
+    let held = c.in_ok-end.ensures.held told ∙ ap (λ (m : PageMap). page_at m c.in_ok-end.end.way.page) (sym stays.same) in
     let at = rowid_since gs.below gs.tells gs.limits gs.map c.args.pages.now c.find_leaf.new.pages c.in_ok-end.end.way.page c.in_ok-end.end.place c.args.rowid _ (Ok c.in_ok-is_row_at.field-0) plain
-    stays.kept stays.same c.in_ok-is_row_at.ensures.found told end.under.t whole end.under.lies end.under.at in
+    stays.kept stays.same (λ telling. c.in_ok-is_row_at.ensures.found telling held) told end.under.t whole end.under.lies end.under.at in
     subst (λ (payload : Option (List ℕ)). IsFound payload c.args.out.now.items c.args.out.now.items false) (sym (row_missing pages size c.args.rowid rows c.in_ok-end.end _ end at c.if-not-branch.true)) (refl, refl))
 
-pub returns-in_err-read_row-clause-found : goal.returns-in_err-read_row-clause-found
-returns-in_err-read_row-clause-found g c = λ told rows used whole tree.
+pub returns-in_err-read_next_row-clause-found : goal.returns-in_err-read_next_row-clause-found
+returns-in_err-read_next_row-clause-found g c = λ told rows used whole tree.
     (let gs = g.P.Pages in
     let pages = gs.map c.args.pages.now in
     let size = (gs.limits (gs.below c.args.pages.now)).page in
     let plain = to_z-of_z w64 c.args.rowid c.ranges.rowid in
     let end = subst (λ (z : ℤ). FindsLeaf pages size c.args.root z (Ok c.in_ok-end.end)) plain (c.in_ok-end.ensures.found told) rows used whole tree in
     let stays = c.in_ok-end.ensures.stays in
-    let still = c.in_ok-is_row_at.ensures.stays in
+    let held = c.in_ok-end.ensures.held told ∙ ap (λ (m : PageMap). page_at m c.in_ok-end.end.way.page) (sym stays.same) in
     let at = rowid_since gs.below gs.tells gs.limits gs.map c.args.pages.now c.find_leaf.new.pages c.in_ok-end.end.way.page c.in_ok-end.end.place c.args.rowid _ (Ok c.in_ok-is_row_at.field-0) plain
-    stays.kept stays.same c.in_ok-is_row_at.ensures.found told end.under.t whole end.under.lies end.under.at in
+    stays.kept stays.same (λ telling. c.in_ok-is_row_at.ensures.found telling held) told end.under.t whole end.under.lies end.under.at in
     let there = row_found pages size c.args.rowid rows c.in_ok-end.end _ nothing end at c.if-not-branch.false in
-    refused _ _ c.in_err-read_row.field-0.0 c.from_residual-in_err-read_row.ensures.1
-    (since gs.below gs.tells gs.limits gs.map (λ (m : PageMap) (n : ℕ). ReadsRow m n c.in_ok-end.end.way.page c.in_ok-end.end.place c.args.out.now.items c.read_row.new.out.items (Err c.in_err-read_row.field-0.0)) c.args.pages.now
-    c.is_row_at.new.pages (still.kept ∙ stays.kept) (still.same ∙ stays.same) c.in_err-read_row.ensures.read told end.under.t nothing whole end.under.lies end.under.at there.0))
+    refused _ _ c.in_err-read_next_row.field-0.0 c.from_residual-in_err-read_next_row.ensures.1
+    (since gs.below gs.tells gs.limits gs.map (λ (m : PageMap) (n : ℕ). ReadsRow m n c.in_ok-end.end.way.page c.in_ok-end.end.place c.args.out.now.items c.read_next_row.new.out.items (Err c.in_err-read_next_row.field-0.0)) c.args.pages.now
+    c.find_leaf.new.pages stays.kept stays.same (λ telling. c.in_err-read_next_row.ensures.read telling held) told end.under.t nothing whole end.under.lies end.under.at there.0))
 
 pub returns-clause-found : goal.returns-clause-found
 returns-clause-found g c = λ told rows used whole tree.
@@ -60,10 +62,10 @@ returns-clause-found g c = λ told rows used whole tree.
     let plain = to_z-of_z w64 c.args.rowid c.ranges.rowid in
     let end = subst (λ (z : ℤ). FindsLeaf pages size c.args.root z (Ok c.in_ok-end.end)) plain (c.in_ok-end.ensures.found told) rows used whole tree in
     let stays = c.in_ok-end.ensures.stays in
-    let still = c.in_ok-is_row_at.ensures.stays in
+    let held = c.in_ok-end.ensures.held told ∙ ap (λ (m : PageMap). page_at m c.in_ok-end.end.way.page) (sym stays.same) in
     let at = rowid_since gs.below gs.tells gs.limits gs.map c.args.pages.now c.find_leaf.new.pages c.in_ok-end.end.way.page c.in_ok-end.end.place c.args.rowid _ (Ok c.in_ok-is_row_at.field-0) plain
-    stays.kept stays.same c.in_ok-is_row_at.ensures.found told end.under.t whole end.under.lies end.under.at in
+    stays.kept stays.same (λ telling. c.in_ok-is_row_at.ensures.found telling held) told end.under.t whole end.under.lies end.under.at in
     let there = row_found pages size c.args.rowid rows c.in_ok-end.end _ nothing end at c.if-not-branch.false in
-    let read = since gs.below gs.tells gs.limits gs.map (λ (m : PageMap) (n : ℕ). ReadsRow m n c.in_ok-end.end.way.page c.in_ok-end.end.place c.args.out.now.items c.read_row.new.out.items (Ok c.in_ok-read_row.field-0)) c.args.pages.now
-    c.is_row_at.new.pages (still.kept ∙ stays.kept) (still.same ∙ stays.same) c.in_ok-read_row.ensures.read told end.under.t nothing whole end.under.lies end.under.at there.0 in
-    subst (λ (payload : Option (List ℕ)). IsFound payload c.args.out.now.items c.read_row.new.out.items true) (sym there.1) (refl, read.1))
+    let read = since gs.below gs.tells gs.limits gs.map (λ (m : PageMap) (n : ℕ). ReadsRow m n c.in_ok-end.end.way.page c.in_ok-end.end.place c.args.out.now.items c.read_next_row.new.out.items (Ok c.in_ok-read_next_row.field-0)) c.args.pages.now
+    c.find_leaf.new.pages stays.kept stays.same (λ telling. c.in_ok-read_next_row.ensures.read telling held) told end.under.t nothing whole end.under.lies end.under.at there.0 in
+    subst (λ (payload : Option (List ℕ)). IsFound payload c.args.out.now.items c.read_next_row.new.out.items true) (sym there.1) (refl, read.1))
