@@ -1,4 +1,4 @@
-/* _kinolavust for CPython: an open file and its prepared statements, over kinolavust.h, and what a cursor begins with.
+/* _kinolavust for CPython: an open file and its prepared statements, over kinolavust.h, and what cursors and connections begin with.
  * kinolavust.py stands on it, or on kinolavust_ctypes.py, which has the same classes.
  *
  * A file is made with two functions of kinolavust.py: one makes the exception of a refusal, the other makes plain values (None,
@@ -35,9 +35,22 @@ typedef struct {
   PyObject_HEAD
   PyObject *connection;
   PyObject *rows; /* an iterator; NULL: none */
+  Py_ssize_t arraysize;
+  PyObject *weak; /* references that don't keep it */
 } Rows;
 
-static PyTypeObject FileType, StatementType, RowsType;
+/* What a connection begins with. */
+typedef struct {
+  PyObject_HEAD
+  PyObject *file; /* of kinolavust.py: its `statement` gives the statement of a text */
+  unsigned number;
+  PyTypeObject *cursor; /* the class of its cursors */
+  /* the text that came last, the object itself, and its statement, where it was prepared: a loop gives the same again and again */
+  PyObject *text;
+  Statement *statement;
+} Link;
+
+static PyTypeObject FileType, StatementType, RowsType, LinkType;
 
 /* ---- exceptions */
 
@@ -366,15 +379,20 @@ static PyTypeObject FileType = {
 
 /* ---- rows of a cursor */
 
-static PyObject *rows_new(PyTypeObject *type, PyObject *arguments, PyObject *Py_UNUSED(named)) {
-  PyObject *connection, *rows = NULL;
-  if (!PyArg_UnpackTuple(arguments, "Rows", 1, 2, &connection, &rows)) return NULL;
+/* A cursor of a class over rows, or over none. */
+static PyObject *cursor_over(PyTypeObject *type, PyObject *connection, PyObject *rows) {
   Rows *it = (Rows *)type->tp_alloc(type, 0);
   if (!it) return NULL;
   Py_INCREF(connection);
   it->connection = connection;
+  it->arraysize = 1;
   if (rows && !(it->rows = PyObject_GetIter(rows))) Py_CLEAR(it);
   return (PyObject *)it;
+}
+
+static PyObject *rows_new(PyTypeObject *type, PyObject *arguments, PyObject *Py_UNUSED(named)) {
+  PyObject *connection, *rows = NULL;
+  return PyArg_UnpackTuple(arguments, "Rows", 1, 2, &connection, &rows) ? cursor_over(type, connection, rows) : NULL;
 }
 
 static PyObject *rows_next(Rows *it) { return it->rows ? PyIter_Next(it->rows) : NULL; }
@@ -402,6 +420,7 @@ static int rows_clear(Rows *it) {
 
 static void rows_dealloc(Rows *it) {
   PyObject_GC_UnTrack(it);
+  if (it->weak) PyObject_ClearWeakRefs((PyObject *)it);
   rows_clear(it);
   Py_TYPE(it)->tp_free(it);
 }
@@ -412,6 +431,7 @@ static PyMethodDef rows_methods[] = {
 
 static PyMemberDef rows_members[] = {
     {"connection", T_OBJECT_EX, offsetof(Rows, connection), READONLY, NULL},
+    {"arraysize", T_PYSSIZET, offsetof(Rows, arraysize), 0, NULL},
     {NULL, 0, 0, 0, NULL}};
 
 static PyTypeObject RowsType = {
@@ -424,10 +444,116 @@ static PyTypeObject RowsType = {
     .tp_dealloc = (destructor)rows_dealloc,
     .tp_traverse = (traverseproc)rows_traverse,
     .tp_clear = (inquiry)rows_clear,
+    .tp_weaklistoffset = offsetof(Rows, weak),
     .tp_iter = PyObject_SelfIter,
     .tp_iternext = (iternextfunc)rows_next,
     .tp_methods = rows_methods,
     .tp_members = rows_members,
+};
+
+/* ---- connections */
+
+static PyObject *link_new(PyTypeObject *type, PyObject *arguments, PyObject *Py_UNUSED(named)) {
+  PyObject *file, *cursor;
+  unsigned number;
+  if (!PyArg_ParseTuple(arguments, "OIO!:Connection", &file, &number, &PyType_Type, &cursor)) return NULL;
+  if (!PyType_IsSubtype((PyTypeObject *)cursor, &RowsType)) return PyErr_Format(PyExc_TypeError, "the class of cursors begins with Rows");
+  Link *it = (Link *)type->tp_alloc(type, 0);
+  if (!it) return NULL;
+  Py_INCREF(file);
+  Py_INCREF(cursor);
+  it->file = file;
+  it->number = number;
+  it->cursor = (PyTypeObject *)cursor;
+  return (PyObject *)it;
+}
+
+/* Has it remember a text and its statement, whose reference it takes. */
+static void link_remember(Link *it, PyObject *text, Statement *statement) {
+  PyObject *text_before = it->text, *statement_before = (PyObject *)it->statement;
+  Py_INCREF(text);
+  it->text = text;
+  it->statement = statement;
+  Py_XDECREF(text_before);
+  Py_XDECREF(statement_before);
+}
+
+/* The rows of a statement that was prepared. */
+static PyObject *prepared_rows(Statement *it, unsigned connection, PyObject *parameters) {
+  kinolavust_rows *rows;
+  Py_INCREF(it); /* what a caller's code runs meanwhile may forget it */
+  PyObject *list = run(it, connection, parameters, &rows) ? list_of(rows) : NULL;
+  Py_DECREF(it);
+  return list;
+}
+
+/* The rows of a text's statement. */
+static PyObject *link_rows(Link *it, PyObject *text, PyObject *parameters) {
+  if (text == it->text) return prepared_rows(it->statement, it->number, parameters);
+  PyObject *statement = PyObject_CallMethod(it->file, "statement", "O", text);
+  if (!statement) return NULL;
+  if (Py_TYPE(statement) == &StatementType) {
+    link_remember(it, text, (Statement *)statement);
+    return prepared_rows((Statement *)statement, it->number, parameters);
+  }
+  PyObject *rows = PyObject_CallMethod(statement, "run", "IO", it->number, parameters);
+  Py_DECREF(statement);
+  return rows;
+}
+
+static PyObject *link_execute(Link *it, PyObject *const *arguments, Py_ssize_t count) {
+  if (count != 1 && count != 2) return PyErr_Format(PyExc_TypeError, "execute takes a text and parameters, and given were %zd", count);
+  PyObject *none = count == 2 ? NULL : PyTuple_New(0);
+  PyObject *rows = link_rows(it, arguments[0], none ? none : arguments[1]);
+  PyObject *cursor = rows ? cursor_over(it->cursor, (PyObject *)it, rows) : NULL;
+  Py_XDECREF(rows);
+  Py_XDECREF(none);
+  return cursor;
+}
+
+static int link_traverse(Link *it, visitproc visit, void *arg) {
+  Py_VISIT(it->file);
+  Py_VISIT(it->cursor);
+  Py_VISIT(it->text);
+  Py_VISIT(it->statement);
+  return 0;
+}
+
+static int link_clear(Link *it) {
+  Py_CLEAR(it->file);
+  Py_CLEAR(it->cursor);
+  Py_CLEAR(it->text);
+  Py_CLEAR(it->statement);
+  return 0;
+}
+
+static void link_dealloc(Link *it) {
+  PyObject_GC_UnTrack(it);
+  link_clear(it);
+  Py_TYPE(it)->tp_free(it);
+}
+
+static PyMethodDef link_methods[] = {
+    {"execute", (PyCFunction)(void (*)(void))link_execute, METH_FASTCALL, "execute(sql, parameters=()): a cursor over the rows"},
+    {NULL, NULL, 0, NULL}};
+
+static PyMemberDef link_members[] = {
+    {"_file", T_OBJECT_EX, offsetof(Link, file), READONLY, NULL},
+    {"number", T_UINT, offsetof(Link, number), READONLY, NULL},
+    {NULL, 0, 0, 0, NULL}};
+
+static PyTypeObject LinkType = {
+    PyVarObject_HEAD_INIT(NULL, 0)
+    .tp_name = "_kinolavust.Link",
+    .tp_doc = "Link(file, number, cursor): what a connection begins with",
+    .tp_basicsize = sizeof(Link),
+    .tp_flags = Py_TPFLAGS_DEFAULT | Py_TPFLAGS_BASETYPE | Py_TPFLAGS_HAVE_GC,
+    .tp_new = link_new,
+    .tp_dealloc = (destructor)link_dealloc,
+    .tp_traverse = (traverseproc)link_traverse,
+    .tp_clear = (inquiry)link_clear,
+    .tp_methods = link_methods,
+    .tp_members = link_members,
 };
 
 /* ---- the module */
@@ -446,7 +572,8 @@ static int add_type(PyObject *module, const char *name, PyTypeObject *type) {
 }
 
 static int fill_module(PyObject *it) {
-  bool filled = PyType_Ready(&StatementType) == 0 && add_type(it, "File", &FileType) == 0 && add_type(it, "Rows", &RowsType) == 0;
+  bool filled = PyType_Ready(&StatementType) == 0 && add_type(it, "File", &FileType) == 0 && add_type(it, "Rows", &RowsType) == 0 &&
+                add_type(it, "Link", &LinkType) == 0;
   return filled ? 0 : -1;
 }
 

@@ -137,6 +137,8 @@ def cursors(folder):
         same("iteration", [(3,), (4,)], list(cursor))
         same("past the end", None, cursor.fetchone())
         same("fetchmany of one", [(0,)], db.execute("SELECT a FROM t").fetchmany())
+        cursor.execute("SELECT a FROM t").arraysize = 2
+        same("fetchmany of arraysize", [(0,), (1,)], cursor.fetchmany())
 
 
 def refusals(folder):
@@ -260,6 +262,12 @@ def exceptions(folder):
             db.execute("INSERT INTO t VALUES (?)", (number * 10,))
             yield (number,)
 
+    def another():
+        db.execute("SELECT 8")
+        yield 7
+
+    for _ in range(2):
+        same("another statement while values are made", [(7,)], db.execute("SELECT ?", another()).fetchall())
     db.executemany("INSERT INTO t VALUES (?)", within())
     same("the statement within itself", [1, 1, 20, 2, 30, 3], [a for (a,) in db.execute("SELECT a FROM t")])
     same("rows of the last of many", [(3,)], db.executemany("SELECT ?", [(1,), (2,), (3,)]).fetchall())
@@ -305,7 +313,7 @@ def memory(folder):
         gc.collect()
         return [sys.getallocatedblocks(), *map(sys.getrefcount, (text, data, name, number, given, None, db, db._file))]
 
-    for _ in range(20):
+    for _ in range(600):  # until nothing more is kept for later
         calls()
     before = size()
     for _ in range(100):

@@ -213,8 +213,6 @@ class _File:
 
     def __init__(self, path, page_size, salts, cached_statements):
         self.cached_statements, self.statements = cached_statements, collections.OrderedDict()
-        # (the text that came last, the object itself, and its statement: a loop gives the same again and again)
-        self.last_text = self.last = None
         self.handle = _library.File(_name_of_file(path), page_size, salts, _exception, _plain_values)
 
     def statement(self, sql):
@@ -223,7 +221,6 @@ class _File:
         if not statement:
             return self._new_statement(sql)
         self.statements.move_to_end(sql)
-        self.last_text, self.last = sql, statement
         return statement
 
     def _new_statement(self, sql):
@@ -243,17 +240,15 @@ class _File:
 
     def _keep(self, sql, statement):
         self.statements[sql] = statement
-        self.last_text = self.last = None
         while len(self.statements) > self.cached_statements:
             self.statements.popitem(last=False)
 
     def close(self):
         self.statements.clear()
-        self.last_text = self.last = None
         self.handle.close()
 
 
-class Connection:
+class Connection(_library.Link):
     """One of the sixteen connections of an open file. As a context it commits its transaction at the end, rolls it back if an
     exception is raised, and then closes."""
 
@@ -261,23 +256,15 @@ class Connection:
     OperationalError, IntegrityError, InternalError = OperationalError, IntegrityError, InternalError
     ProgrammingError, NotSupportedError = ProgrammingError, NotSupportedError
 
-    def __init__(self, file, number):
-        self._file, self.number = file, number
-
     def cursor(self):
         return Cursor(self)
-
-    def execute(self, sql, parameters=()):
-        file = self._file
-        statement = file.last if sql is file.last_text else file.statement(sql)
-        return Cursor(self, statement.run(self.number, parameters))
 
     def executemany(self, sql, many):
         return self.cursor().executemany(sql, many)
 
     def other(self, number):
         """Another connection of the same file, 1 to 16."""
-        return Connection(self._file, operator.index(number))
+        return Connection(self._file, operator.index(number), Cursor)
 
     def commit(self):
         """Ends the transaction, if one is open."""
@@ -312,7 +299,7 @@ class Connection:
 class Cursor(_library.Rows):
     """The rows of the statement that it executed last, as an iterator."""
 
-    arraysize = 1
+    __slots__ = ()
     rowcount = -1
     description = None
     lastrowid = None
@@ -348,4 +335,4 @@ class Cursor(_library.Rows):
 
 def connect(path, page_size=0, salts=0, cached_statements=100):
     """Opens the database of a file, and creates it where the file doesn't exist or is blank. So many prepared statements are kept."""
-    return Connection(_File(path, page_size, salts, cached_statements), 1)
+    return Connection(_File(path, page_size, salts, cached_statements), 1, Cursor)

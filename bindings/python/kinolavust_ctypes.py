@@ -172,7 +172,7 @@ class Rows:
     """What a cursor begins with."""
 
     def __init__(self, connection, rows=()):
-        self.connection, self._rows = connection, iter(rows)
+        self.connection, self._rows, self.arraysize = connection, iter(rows), 1
 
     def _take(self, rows):
         """Has it go over other rows."""
@@ -183,3 +183,14 @@ class Rows:
 
     def __next__(self):
         return next(self._rows)
+
+
+class Link:
+    """What a connection begins with: a file of kinolavust.py, a number, and the class of its cursors."""
+
+    def __init__(self, file, number, cursor):
+        self._file, self.number, self._cursor = file, number, cursor
+
+    def execute(self, sql, parameters=(), /):
+        """A cursor over the rows."""
+        return self._cursor(self, self._file.statement(sql).run(self.number, parameters))
