@@ -22,6 +22,7 @@ use Rattle.catalog.specs.declared.tables.Table.{Table}
 use Rattle.catalog.specs.declared.tables.TableRow as stored
 use Rattle.row_scan.specs.Rows.{IsRow, TableRow}
 use Rattle.row_change.specs.Demands.{admitted, with_own_rowid}
+use Rattle.row_change.specs.Giving.{NeedsNoLast, Serves}
 use Rattle.row_change.specs.Inserting.{last_rowid, row_added, rows_inserted}
 use Rattle.row_change.specs.NewRows.{row_of}
 use Rattle.row_change.specs.Trees.{IsPutIn, PutsRow, row_put}
@@ -29,7 +30,7 @@ use Rattle.row_change.proofs.Rising.{fit_rows_rise}
 use Rattle.index_entries.specs.Entries.{AreApart}
 use Rattle.index_entries.specs.Keeping.{row_in}
 use Rattle.db_write.specs.Changing.{AreInserted, HoldsFitRows, InsertsInTrees, IsRefusedInsert}
-use Rattle.db_write.specs.OneRow.{InsertsAfter, InsertsFrom, InsertsOneRow, IsRefusedAs, IsRowInserted, last_with, row_inserted}
+use Rattle.db_write.specs.OneRow.{FindsLastFor, InsertsAfter, InsertsFrom, InsertsOneRow, IsRefusedAs, IsRowInserted, last_with, row_inserted}
 use Rattle.db_write.specs.Turning.{AddsRowToIndexes, HaveAlone, IsRowRefused}
 use Rattle.db_write.proofs.Among.{keeps_all, keeps_then, rows_tree}
 use Rattle.db_write.proofs.Clashing.{alone_same, clash_refused, in_turn, passes, where_alone}
@@ -50,6 +51,24 @@ last_same shape (entry ∷ []) (row ∷ next ∷ rows) each = absurd each.1
 last_same shape (entry ∷ other ∷ entries) (row ∷ []) each = absurd each.1
 last_same shape (entry ∷ other ∷ entries) (row ∷ next ∷ rows) each = last_same shape (other ∷ entries) (next ∷ rows) each.1
 
+-- ---- the last rowid of a row given
+
+-- the last rowid serves as such
+served : (table : Table) (places : List (Option ℕ)) (given : List Value) (last : Option ℤ) (rows : List TableRow) → last ≡ last_rowid rows → Serves table places given last rows
+served table places given last rows at = ap (λ (l : Option ℤ). row_added table places l given) at
+
+module _ (old : PageMap) (size : ℕ) (table : Table) (places : List (Option ℕ)) (given : List Value) where
+  pub none_needed : NeedsNoLast table places given → FindsLastFor old size table places given (Ok None)
+  none_needed needs schema before after rows sized is_root among = needs None (last_rowid rows)
+
+  pub last_needed : (result : Result (Option ℤ) Fault) → FindsLast old size table.root result → FindsLastFor old size table places given result
+  last_needed (Ok last) finds schema before after rows sized is_root among =
+      let s = rows_among old size schema before table rows after among sized is_root in
+      served table places given last rows (finds s.entries s.used s.stands.free_are.whole s.stands.tree ∙ last_same (shape_of table) s.entries rows s.each)
+  last_needed (Err fault) finds schema before after rows sized is_root among =
+      let s = rows_among old size schema before table rows after among sized is_root in
+      finds s.entries s.used s.stands.free_are.whole s.stands.tree
+
 -- ---- one row
 
 abbrev not_given : Refusal → Answer TableRow
@@ -63,14 +82,14 @@ module _ (old mid : PageMap) (size : ℕ) (table : Table) (places : List (Option
       let s = rows_among old size schema before table rows after among sized is_root in
       subst (λ (f : Fault). IsRefusedAs (row_inserted table places rows given) table f) (sym same) (by rows at (puts rows s.entries s.used s.free s.stands s.each at)))
     where
-      by : (rows : List TableRow) → last ≡ last_rowid rows → IsOutsideOrFull fault ⊎ (row_put table places rows given ≡ Err (refusal_of fault)) → IsRefusedAs (row_inserted table places rows given) table fault
+      by : (rows : List TableRow) → Serves table places given last rows → IsOutsideOrFull fault ⊎ (row_put table places rows given ≡ Err (refusal_of fault)) → IsRefusedAs (row_inserted table places rows given) table fault
       by rows at (inl outside) = inl outside
       by rows at (inr is) = inr (inl (in_turn table rows (row_added table places (last_rowid rows) given) ∙ ap (λ (a : Answer TableRow). a then where_alone table rows) is))
 
   -- it is put, and its entries are next
   module _ (row : stored.TableRow) (puts : PutsRow old mid size table.root table places given last (Ok row)) (new : PageMap) where
     module _ (schema : Owner) (before after : List Owner) (rows : List TableRow) (sized : IsPageSize size) (is_root : schema.root ≡ 1) (s : RowsStand old size schema before table rows after)
-        (fit : are_rows (with_rows table rows) ≡ true) (at : last ≡ last_rowid rows) where
+        (fit : are_rows (with_rows table rows) ≡ true) (at : Serves table places given last rows) where
       come : IsPutIn old mid size table.root table places given rows s.used s.free (row_of row)
       come = puts rows s.entries s.used s.free s.stands s.each at
 
@@ -170,7 +189,7 @@ module _ (old mid : PageMap) (size : ℕ) (table : Table) (places : List (Option
       by result (next schema before after (put int_cmp row.rowid row.values.items rows) sized is_root one.hold.holds.among one.hold.fit is)
     where
       one : IsRowInserted old mid size schema before table places given rows after (row_of row)
-      one = first schema before after rows sized is_root among fit at
+      one = first schema before after rows sized is_root among fit (served table places given last rows at)
 
       is : last_with last row.rowid ≡ last_rowid (put int_cmp row.rowid row.values.items rows)
       is =
@@ -190,7 +209,7 @@ module _ (old mid : PageMap) (size : ℕ) (table : Table) (places : List (Option
   pub inserts_stop : (fault : Fault) (result : Result ⊤ Fault) → IsErrAnd result (λ e. e ≡ fault) → InsertsAfter old mid size table places given last (Err fault) → InsertsFrom old mid size table places (given ∷ more) last result
   inserts_stop fault (Ok done) same first = absurd same
   inserts_stop fault (Err e) same first = λ schema before after rows sized is_root among fit at.
-      subst (λ (f : Fault). IsRefusedInsert table places (given ∷ more) rows f) (sym same) (by rows (first schema before after rows sized is_root among fit at))
+      subst (λ (f : Fault). IsRefusedInsert table places (given ∷ more) rows f) (sym same) (by rows (first schema before after rows sized is_root among fit (served table places given last rows at)))
     where
       by : (rows : List TableRow) → IsRefusedAs (row_inserted table places rows given) table fault → IsRefusedInsert table places (given ∷ more) rows fault
       by rows (inl outside) = inl outside
@@ -223,13 +242,30 @@ module _ (old : PageMap) (size : ℕ) (table : Table) (places : List (Option ℕ
 
 module _ (old : PageMap) (size : ℕ) (table : Table) (places : List (Option ℕ)) (given : List Value) where
   -- the last rowid isn't found
-  pub last_unread : (new : PageMap) (fault : Fault) (result : Result stored.TableRow Fault) → IsErrAnd result (λ e. e ≡ fault) → FindsLast old size table.root (Err fault) → InsertsOneRow old new size table places given result
+  pub last_unread : (new : PageMap) (fault : Fault) (result : Result stored.TableRow Fault) → IsErrAnd result (λ e. e ≡ fault) → FindsLastFor old size table places given (Err fault) → InsertsOneRow old new size table places given result
   last_unread new fault (Ok row) same finds = absurd same
-  last_unread new fault (Err e) same finds = λ schema before after rows sized is_root among fit. (
-      let s = rows_among old size schema before table rows after among sized is_root in
-      inl (inl (subst IsOutside (sym same) (finds s.entries s.used s.stands.free_are.whole s.stands.tree))))
+  last_unread new fault (Err e) same finds = λ schema before after rows sized is_root among fit. inl (inl (subst IsOutside (sym same) (finds schema before after rows sized is_root among)))
 
-  pub inserted_last : (new : PageMap) (last : Option ℤ) (result : Result stored.TableRow Fault) → FindsLast old size table.root (Ok last) → InsertsAfter old new size table places given last result → InsertsOneRow old new size table places given result
+  pub inserted_last : (new : PageMap) (last : Option ℤ) (result : Result stored.TableRow Fault) → FindsLastFor old size table places given (Ok last) → InsertsAfter old new size table places given last result → InsertsOneRow old new size table places given result
   inserted_last new last result finds inserts schema before after rows sized is_root among fit =
-      let s = rows_among old size schema before table rows after among sized is_root in
-      inserts schema before after rows sized is_root among fit (finds s.entries s.used s.stands.free_are.whole s.stands.tree ∙ last_same (shape_of table) s.entries rows s.each)
+      inserts schema before after rows sized is_root among fit (finds schema before after rows sized is_root among)
+
+  -- it is the only one of a statement
+  pub only_come : (new : PageMap) (row : stored.TableRow) → InsertsOneRow old new size table places given (Ok row) → InsertsInTrees old new size table places (given ∷ []) (Ok tt)
+  only_come new row inserts schema before after rows sized is_root among fit =
+      let one : IsRowInserted old new size schema before table places given rows after (row_of row) = inserts schema before after rows sized is_root among fit in
+      record {
+        now = put int_cmp row.rowid row.values.items rows;
+        answer = one_and_more table places rows given [] ∙ ap (λ (a : Answer TableRow). a then Rest table places rows []) one.answer;
+        hold = one.hold;
+      }
+
+  pub only_stopped : (new : PageMap) (fault : Fault) (result : Result ⊤ Fault) → IsErrAnd result (λ e. e ≡ fault) → InsertsOneRow old new size table places given (Err fault) → InsertsInTrees old new size table places (given ∷ []) result
+  only_stopped new fault (Ok done) same inserts = absurd same
+  only_stopped new fault (Err e) same inserts = λ schema before after rows sized is_root among fit.
+      subst (λ (f : Fault). IsRefusedInsert table places (given ∷ []) rows f) (sym same) (by rows (inserts schema before after rows sized is_root among fit))
+    where
+      by : (rows : List TableRow) → IsRefusedAs (row_inserted table places rows given) table fault → IsRefusedInsert table places (given ∷ []) rows fault
+      by rows (inl outside) = inl outside
+      by rows (inr (inl is)) = inr (inl (one_and_more table places rows given [] ∙ ap (λ (a : Answer TableRow). a then Rest table places rows []) is))
+      by rows (inr (inr wide)) = inr (inr wide)

@@ -4,6 +4,7 @@ use Rattle.std.specs.Prelude.{◌≡◌, ◌⊎◌, ⊤, ℕ, ℤ, true, List, [
 use Rattle.std.specs.FinMap.Entries.{put}
 use Rattle.std.specs.List.{AllByRecursion}
 use Rattle.std.specs.Ordering.{int_cmp}
+use Rattle.sqlval.specs.Faults.{IsOutside}
 use Rattle.sqlval.specs.PageSizes.{IsPageSize}
 use Rattle.sqlval.specs.Refusals.{Answer, ◌then◌, refusal_of}
 use Rattle.sqlval.specs.declared.fault.Fault.{Fault}
@@ -20,6 +21,7 @@ use Rattle.query_terms.specs.Values.{Row}
 use Rattle.row_scan.specs.Rows.{TableRow}
 use Rattle.row_scan.specs.Sources.{as_source}
 use Rattle.row_change.specs.Demands.{admitted}
+use Rattle.row_change.specs.Giving.{Serves}
 use Rattle.row_change.specs.Inserting.{last_rowid, row_added}
 use Rattle.row_change.specs.NewRows.{row_of}
 use Rattle.row_change.specs.Setting.{row_set, rows_turned}
@@ -55,17 +57,24 @@ IsInsertionOf old new size schema before table places given rows after result =
     MatchResult result (λ row. IsRowInserted old new size schema before table places given rows after (row_of row))
     (λ fault. IsRefusedAs (row_inserted table places rows given) table fault)
 
+-- A rowid is found that serves as the last one of the table's rows for a row given, which may bring its own ("ROWIDs and the INTEGER PRIMARY
+-- KEY"); or a disk's call failed.
+abbrev pub FindsLastFor : PageMap → ℕ → Table → List (Option ℕ) → List Value → Result (Option ℤ) Fault → Type 0
+FindsLastFor pages size table places given result = (schema : Owner) (before after : List Owner) (rows : List TableRow) → IsPageSize size
+    → schema.root ≡ 1 → AreAmong pages size schema before table rows after
+    → MatchResult result (λ last. Serves table places given last rows) IsOutside
+
 -- A row given is inserted into the table, and answered as it is stored; or the call is refused ("INSERT").
 abbrev pub InsertsOneRow : PageMap → PageMap → ℕ → Table → List (Option ℕ) → List Value → Result stored.TableRow Fault → Type 0
 InsertsOneRow old new size table places given result = (schema : Owner) (before after : List Owner) (rows : List TableRow) → IsPageSize size
     → schema.root ≡ 1 → AreAmong old size schema before table rows after → are_rows (with_rows table rows) ≡ true
     → IsInsertionOf old new size schema before table places given rows after result
 
--- The same where this is the table's last rowid.
+-- The same where this serves as the table's last rowid.
 abbrev pub InsertsAfter : PageMap → PageMap → ℕ → Table → List (Option ℕ) → List Value → Option ℤ → Result stored.TableRow Fault → Type 0
 InsertsAfter old new size table places given last result = (schema : Owner) (before after : List Owner) (rows : List TableRow) → IsPageSize size
-    → schema.root ≡ 1 → AreAmong old size schema before table rows after → are_rows (with_rows table rows) ≡ true → last ≡ last_rowid rows
-    → IsInsertionOf old new size schema before table places given rows after result
+    → schema.root ≡ 1 → AreAmong old size schema before table rows after → are_rows (with_rows table rows) ≡ true
+    → Serves table places given last rows → IsInsertionOf old new size schema before table places given rows after result
 
 -- Rows given are inserted into the table, whose last rowid this is, one after another; or the call is refused.
 abbrev pub InsertsFrom : PageMap → PageMap → ℕ → Table → List (Option ℕ) → List (List Value) → Option ℤ → Result ⊤ Fault → Type 0

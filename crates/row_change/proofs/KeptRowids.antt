@@ -88,7 +88,7 @@ int_stays to.Numeric n e = refl
 int_stays to.Blob n e = refl
 int_stays to.Text n e = absurd (false≢true e)
 
-stored_stays : (columns : List Column) (values stored : List Value) (place : ℕ) (n : ℤ) → is_integer_at columns place ≡ true → slice_get values place ≡ Some (Int n)
+pub stored_stays : (columns : List Column) (values stored : List Value) (place : ℕ) (n : ℤ) → is_integer_at columns place ≡ true → slice_get values place ≡ Some (Int n)
     → with_affinity (map as_column columns) values ≡ Ok stored → slice_get stored place ≡ Some (Int n)
 stored_stays [] values stored place n it at e = absurd (false≢true it)
 stored_stays (c ∷ columns) [] stored place n it at e = absurd cc

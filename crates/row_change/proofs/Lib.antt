@@ -5,6 +5,7 @@ mod Alone
 mod AmongRows
 mod Checks
 mod FitRows
+mod GivenRowid
 mod Folding
 mod IntoTrees
 pub mod KeptRowids

@@ -1,5 +1,5 @@
 -- What putting a row of an INSERT into its table's tree comes to.
-use Rattle.std.proofs.Common.{◌≡◌, sym, ap, subst, ◌∙◌, inl, inr, ◌⊎◌, ℕ, ℤ, true, List, length, Option, Some, None, Ok, Err}
+use Rattle.std.proofs.Common.{◌≡◌, refl, sym, ap, subst, ◌∙◌, inl, inr, ◌⊎◌, ℕ, ℤ, true, List, length, Option, Some, None, Ok, Err}
 use Rattle.std.proofs.lemmas.List.{length-map}
 use Rattle.std.specs.List.{list_all}
 use Rattle.std.specs.Prelude.{Result, MatchResult, IsErrAnd, ⊤}
@@ -22,6 +22,7 @@ use Rattle.catalog.specs.declared.tables.TableRow as stored
 use Rattle.query_terms.specs.Outcome.{IsRefusedBy}
 use Rattle.row_scan.specs.Rows.{IsRow, TableRow}
 use Rattle.row_change.specs.Demands.{with_own_rowid}
+use Rattle.row_change.specs.Giving.{Serves}
 use Rattle.row_change.specs.Inserting.{last_rowid, own_value, row_added, rowid_given}
 use Rattle.row_change.specs.NewRows.{IsWritten}
 use Rattle.row_change.specs.Putting.{PutsAmong}
@@ -78,9 +79,9 @@ module _ (old new : PageMap) (size root : ℕ) (table : Table) (places : List (O
   none_put fault (Ok x) same why = absurd same
   none_put fault (Err e) same why = λ rows entries used free is each at. subst (λ (g : Fault). Refuses table places rows given g) (sym same) (by rows at why)
     where
-      by : (rows : List TableRow) → last ≡ last_rowid rows → IsOutsideOrFull fault ⊎ (row_added table places last given ≡ Err (refusal_of fault)) → Refuses table places rows given fault
+      by : (rows : List TableRow) → Serves table places given last rows → IsOutsideOrFull fault ⊎ (row_added table places last given ≡ Err (refusal_of fault)) → Refuses table places rows given fault
       by rows at (inl outside) = inl outside
-      by rows at (inr why) = inr (ap (λ (a : Answer TableRow). a then λ row. with_own_rowid rows row) (subst (λ (l : Option ℤ). row_added table places l given ≡ Err (refusal_of fault)) at why))
+      by rows at (inr why) = inr (ap (λ (a : Answer TableRow). a then λ row. with_own_rowid rows row) (sym at ∙ why))
 
   pub none_made : (fault : Fault) → IsRefusedBy (row_added table places last given) fault → IsOutsideOrFull fault ⊎ (row_added table places last given ≡ Err (refusal_of fault))
   none_made fault (inl memory) = inl (inl (inl memory))
@@ -91,11 +92,11 @@ module _ (old new : PageMap) (size root : ℕ) (table : Table) (places : List (O
     none_written fault (inl memory) = inl (inl (inl memory))
     none_written fault (inr long) = absurd (long.1 (row_parts table places last given row answer).fits)
 
-    answer_is : (rows : List TableRow) → last ≡ last_rowid rows → row_put table places rows given ≡ with_own_rowid rows row
-    answer_is rows at = ap (λ (a : Answer TableRow). a then λ row. with_own_rowid rows row) (subst (λ (l : Option ℤ). row_added table places l given ≡ Ok row) at answer)
+    answer_is : (rows : List TableRow) → Serves table places given last rows → row_put table places rows given ≡ with_own_rowid rows row
+    answer_is rows at = ap (λ (a : Answer TableRow). a then λ row. with_own_rowid rows row) (sym at ∙ answer)
 
     pub row_is_put : (entry : Entry) → IsWritten (own_column table) row entry → (result : Result ⊤ Fault) → PutsAmong old new size root entry result
-        → (rows : List TableRow) (entries : List Entry) (used free : List ℕ) → Stands old size root entries used free → Pairwise (IsRow (shape_of table)) entries rows → last ≡ last_rowid rows
+        → (rows : List TableRow) (entries : List Entry) (used free : List ℕ) → Stands old size root entries used free → Pairwise (IsRow (shape_of table)) entries rows → Serves table places given last rows
         → MatchResult result (λ done. IsPutIn old new size root table places given rows used free row) (Refuses table places rows given)
     row_is_put entry written result puts rows entries used free is each at = by result (puts entries used free is)
       where
@@ -111,7 +112,7 @@ module _ (old new : PageMap) (size root : ℕ) (table : Table) (places : List (O
           entries = with_row entry entries;
           becomes = becomes;
           each = put_pairs (shape_of table) entry row made entries rows each;
-          fit = fit_put table rows row (added_fits table places last given row answer rows at written.fit);
+          fit = fit_put table rows row (added_fits table places (last_rowid rows) given row (sym at ∙ answer) rows refl written.fit);
         }
         by (Err fault) (inl outside) = inl outside
         by (Err fault) (inr (unique, some)) =

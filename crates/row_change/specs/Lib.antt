@@ -4,6 +4,7 @@ pub mod Changes
 pub mod Choosing
 pub mod Constraints
 pub mod Demands
+pub mod Giving
 pub mod Inserting
 pub mod Keeping
 pub mod NewRows

@@ -15,6 +15,7 @@ use Rattle.catalog.specs.Rows.{are_rows}
 use Rattle.catalog.specs.declared.tables.Table.{Table}
 use Rattle.catalog.specs.declared.tables.TableRow as stored
 use Rattle.row_scan.specs.Rows.{IsRow, TableRow}
+use Rattle.row_change.specs.Giving.{Serves}
 use Rattle.row_change.specs.Inserting.{last_rowid, row_added}
 use Rattle.row_change.specs.Demands.{with_own_rowid}
 use Rattle.row_change.specs.NewRows.{row_of}
@@ -35,9 +36,9 @@ pub record IsPutIn (old new : PageMap) (size root : ℕ) (table : Table) (places
   pub each : Pairwise (IsRow (shape_of table)) entries (put int_cmp row.0 row.1 rows)
   pub fit : FitNow table rows (put int_cmp row.0 row.1 rows)
 
--- Where a tree has rows of a table, and this is the last rowid, the row that a row given becomes is put into it, or the call is refused.
+-- Where a tree has rows of a table, and this serves as the last rowid, the row that a row given becomes is put into it, or the call is refused.
 abbrev pub PutsRow : PageMap → PageMap → ℕ → ℕ → Table → List (Option ℕ) → List Value → Option ℤ → Result stored.TableRow Fault → Type 0
 PutsRow old new size root table places given last result = (rows : List TableRow) (entries : List Entry) (used free : List ℕ)
-    → Stands old size root entries used free → Pairwise (IsRow (shape_of table)) entries rows → last ≡ last_rowid rows
+    → Stands old size root entries used free → Pairwise (IsRow (shape_of table)) entries rows → Serves table places given last rows
     → MatchResult result (λ row. IsPutIn old new size root table places given rows used free (row_of row))
     (λ f. IsOutsideOrFull f ⊎ (row_put table places rows given ≡ Err (refusal_of f)))

@@ -35,7 +35,7 @@ fn value_for(alloc: Global, column: &Column, given: &[Value], place: Option<usiz
 }
 
 /// The place of the value given for a column, where it has one.
-fn place_of(places: &[Option<usize>], index: usize) -> Option<usize>
+pub(crate) fn place_of(places: &[Option<usize>], index: usize) -> Option<usize>
     ensures { result ≡ slice_index_or places.now index None }
 {
     if index < places.len() {

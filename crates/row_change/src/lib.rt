@@ -5,6 +5,7 @@
 mod choosing;
 mod deleting;
 mod demands;
+mod giving;
 mod inserting;
 mod keeping;
 mod meaning;
@@ -17,6 +18,7 @@ ghost use Rattle.row_change.specs.Agreement.{SetsAsEach};
 
 pub use choosing::chosen_rowids;
 pub use deleting::delete_takes_its_rows;
+pub use giving::gives_rowid;
 pub use inserting::insert_adds_its_rows;
 pub use keeping::{kept_changes, kept_rows_stay_alone, put_changes};
 pub use meaning::{meant_places, meant_rows, row_copy};

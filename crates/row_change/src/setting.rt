@@ -158,7 +158,7 @@ fn rowid_now(values: &[Value], own: Option<usize>, rowid: i64) -> R<i64>
 }
 
 /// Whether the column of a place has the affinity INTEGER.
-fn is_integer_at(columns: &[Column], place: usize) -> bool
+pub(crate) fn is_integer_at(columns: &[Column], place: usize) -> bool
     ensures { result ≡ law.is_integer_at columns.now place }
 {
     match columns.get(place) {

@@ -8,7 +8,7 @@ use Rattle.db_write.proofs.inserting.insert_row.Goals as goal
 pub returns-in_err-last-clause-inserted : goal.returns-in_err-last-clause-inserted
 returns-in_err-last-clause-inserted g c = λ told.
     (let pages = g.P.Pages in
-    last_unread (pages.map c.args.pages.now) (pages.limits (pages.below c.args.pages.now)).page c.args.table.now c.args.places.now c.args.given.now (pages.map c.last.new.pages)
+    last_unread (pages.map c.args.pages.now) (pages.limits (pages.below c.args.pages.now)).page c.args.table.now c.args.places.now c.args.given.now (pages.map c.last_for.new.pages)
     c.in_err-last.field-0.0 c.from_residual.result c.from_residual.ensures.1 (c.in_err-last.ensures.found told))
 
 pub returns-clause-inserted : goal.returns-clause-inserted
@@ -24,5 +24,5 @@ returns-clause-inserted g c = λ told.
     let result = c.insert_after.result in
     let stays = c.in_ok-last.ensures.stays in
     inserted_last (pages.map start) size table places given new last result (c.in_ok-last.ensures.found told)
-    (after_reading pages.below pages.tells pages.limits pages.map start c.last.new.pages
+    (after_reading pages.below pages.tells pages.limits pages.map start c.last_for.new.pages
     (λ (m : PageMap) (n : ℕ). InsertsAfter m new n table places given last result) stays.kept stays.same c.insert_after.ensures.inserted told))

@@ -25,6 +25,6 @@ returns-clause-inserted g c = λ told.
     let result = c.insert_from.result in
     let stays = c.in_ok-last.ensures.stays in
     let inserts = after_reading pages.below pages.tells pages.limits pages.map start c.last.new.pages
-    (λ (m : PageMap) (n : ℕ). InsertsFrom m new n table c.deref.result.now (map values_of c.deref-2.result.now) last result) stays.kept stays.same c.insert_from.ensures.inserted told in
+    (λ (m : PageMap) (n : ℕ). InsertsFrom m new n table c.deref-2.result.now (map values_of c.deref-3.result.now) last result) stays.kept stays.same c.insert_from.ensures.inserted told in
     inserted_from (pages.map start) size table insert.places.items (map values_of insert.rows.items) new last result (c.in_ok-last.ensures.found told)
-    (rw (c.deref.ensures.value, c.deref-2.ensures.value) at inserts))
+    (rw (c.deref-2.ensures.value, c.deref-3.ensures.value) at inserts))
