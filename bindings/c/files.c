@@ -338,22 +338,19 @@ static void go_over(kinolavust_rows *rows, size_t len, size_t *value_count) {
 /* The rows of a reply without a byte: a statement that has changed the files needs no memory any more. */
 static kinolavust_rows no_rows;
 
-/* The rows of a reply, whose bytes they take over; NULL if there is no memory. */
+/* The rows of a reply, whose bytes they take over; NULL if there is no memory. Their places and values lie behind them. */
 static kinolavust_rows *rows_of(uint8_t *reply, size_t len) {
-  kinolavust_rows *rows = calloc(1, sizeof *rows);
+  kinolavust_rows counted = {reply, 0, NULL, NULL};
+  size_t value_count;
+  go_over(&counted, len, &value_count);
+  kinolavust_rows *rows = malloc(sizeof *rows + value_count * sizeof *rows->values + (counted.row_count + 1) * sizeof *rows->first);
   if (!rows) {
     free(reply);
     return NULL;
   }
-  size_t value_count;
-  rows->reply = reply;
-  go_over(rows, len, &value_count);
-  rows->first = calloc(rows->row_count + 1, sizeof *rows->first);
-  rows->values = calloc(value_count + 1, sizeof *rows->values);
-  if (!rows->first || !rows->values) {
-    kinolavust_free(rows);
-    return NULL;
-  }
+  *rows = counted;
+  rows->values = (value *)(rows + 1);
+  rows->first = (size_t *)(rows->values + value_count);
   go_over(rows, len, &value_count);
   return rows;
 }
@@ -384,41 +381,38 @@ const void *kinolavust_bytes(const kinolavust_rows *rows, size_t row, size_t col
 void kinolavust_free(kinolavust_rows *rows) {
   if (!rows || rows == &no_rows) return;
   free(rows->reply);
-  free(rows->first);
-  free(rows->values);
   free(rows);
 }
 
 /* ---- statements */
 
-/* The reply to the last statement, or NULL if there is no memory. */
-static uint8_t *reply_of(kinolavust *db, size_t *len) {
-  *len = kinolavust_session_reply_len(db->it, &db->it);
-  uint8_t *reply = malloc(*len + 1);
-  if (reply)
-    kinolavust_session_reply(db->it, reply, *len, &db->it);
-  else
-    *len = 0;
+/* How many bytes the reply to the last statement takes. */
+static size_t reply_len(kinolavust *db) { return kinolavust_session_reply_len(db->it, &db->it); }
+
+/* That reply, which takes so many bytes, or NULL if there is no memory. */
+static uint8_t *reply_of(kinolavust *db, size_t len) {
+  uint8_t *reply = malloc(len + 1);
+  if (reply) kinolavust_session_reply(db->it, reply, len, &db->it);
   return reply;
 }
 
 /* Keeps the refusal of the last statement: where there is no memory, its number alone. */
 static int refuse_statement(kinolavust *db, int number) {
-  size_t len;
-  uint8_t *reply = reply_of(db, &len);
-  refuse_as(db, number, reply, len);
+  size_t len = reply_len(db);
+  uint8_t *reply = reply_of(db, len);
+  refuse_as(db, number, reply, reply ? len : 0);
   free(reply);
   return number;
 }
 
 /* Gives the rows of the last statement. */
 static int give_rows(kinolavust *db, kinolavust_rows **out) {
-  if (kinolavust_session_reply_len(db->it, &db->it) == 0) {
+  size_t len = reply_len(db);
+  if (len == 0) {
     *out = &no_rows;
     return 0;
   }
-  size_t len;
-  uint8_t *reply = reply_of(db, &len);
+  uint8_t *reply = reply_of(db, len);
   *out = reply ? rows_of(reply, len) : NULL;
   return *out ? 0 : refuse_memory(db);
 }

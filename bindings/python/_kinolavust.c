@@ -34,7 +34,8 @@ typedef struct {
 typedef struct {
   PyObject_HEAD
   PyObject *connection;
-  PyObject *rows; /* an iterator; NULL: none */
+  PyObject *rows; /* a list that no one else changes, or an iterator; NULL: none */
+  Py_ssize_t next; /* the place of the list's next row */
   Py_ssize_t arraysize;
   PyObject *weak; /* references that don't keep it */
 } Rows;
@@ -379,6 +380,13 @@ static PyTypeObject FileType = {
 
 /* ---- rows of a cursor */
 
+/* What a cursor keeps of rows: a list as it is, of others an iterator. */
+static PyObject *kept_rows(PyObject *rows) {
+  if (!PyList_CheckExact(rows)) return PyObject_GetIter(rows);
+  Py_INCREF(rows);
+  return rows;
+}
+
 /* A cursor of a class over rows, or over none. */
 static PyObject *cursor_over(PyTypeObject *type, PyObject *connection, PyObject *rows) {
   Rows *it = (Rows *)type->tp_alloc(type, 0);
@@ -386,7 +394,7 @@ static PyObject *cursor_over(PyTypeObject *type, PyObject *connection, PyObject 
   Py_INCREF(connection);
   it->connection = connection;
   it->arraysize = 1;
-  if (rows && !(it->rows = PyObject_GetIter(rows))) Py_CLEAR(it);
+  if (rows && !(it->rows = kept_rows(rows))) Py_CLEAR(it);
   return (PyObject *)it;
 }
 
@@ -395,13 +403,24 @@ static PyObject *rows_new(PyTypeObject *type, PyObject *arguments, PyObject *Py_
   return PyArg_UnpackTuple(arguments, "Rows", 1, 2, &connection, &rows) ? cursor_over(type, connection, rows) : NULL;
 }
 
-static PyObject *rows_next(Rows *it) { return it->rows ? PyIter_Next(it->rows) : NULL; }
+static PyObject *rows_next(Rows *it) {
+  if (!it->rows) return NULL;
+  if (!PyList_CheckExact(it->rows)) return PyIter_Next(it->rows);
+  if (it->next >= PyList_GET_SIZE(it->rows)) {
+    Py_CLEAR(it->rows);
+    return NULL;
+  }
+  PyObject *row = PyList_GET_ITEM(it->rows, it->next++);
+  Py_INCREF(row);
+  return row;
+}
 
 /* Has it go over other rows. */
 static PyObject *rows_take(Rows *it, PyObject *rows) {
-  PyObject *each = PyObject_GetIter(rows), *before = it->rows;
-  if (!each) return NULL;
-  it->rows = each;
+  PyObject *kept = kept_rows(rows), *before = it->rows;
+  if (!kept) return NULL;
+  it->rows = kept;
+  it->next = 0;
   Py_XDECREF(before);
   Py_RETURN_NONE;
 }

@@ -14,6 +14,7 @@ use disk_image::{File, ImageDisk, Journal};
 use engine::{Engine, Refused, Salts, create};
 use sqlval::{Fault, Misuse, R, Row};
 use std::alloc::Global;
+use std::mem;
 
 /// An open database, with its prepared statements, and the reply to the last statement.
 #[derive(Drop)]
@@ -35,14 +36,18 @@ fn statement_text(text: &[u8]) -> R<&str>
     }
 }
 
-/// Rows as bytes.
-fn bytes_of(alloc: Global, rows: &[Row]) -> R<Vec<u8>>
+/// Rows as bytes, in the place of those that this memory has.
+fn bytes_in(memory: Vec<u8>, rows: &[Row]) -> R<Vec<u8>>
     ensures { IfOk result (λ bytes. bytes.items ≡ rows_bytes rows.now) }
 {
-    let mut bytes = Vec::new(alloc);
+    let mut bytes = memory;
+    bytes.clear();
     put_rows(&mut bytes, rows)?;
     Ok(bytes)
 }
+
+/// How many bytes of memory the next reply takes over from the one before, at most.
+const MOST_KEPT: usize = 65_536;
 
 /// A disk over one of the files of a journal.
 fn disk(journal: &Journal, file: File) -> R<ImageDisk> {
@@ -105,13 +110,25 @@ pub fn open(alloc: Global, db: &[u8], log: &[u8], page_size: u32, salts: Salts) 
 }
 
 impl Session {
+    /// Memory for a reply: that of the reply before, which is forgotten, where it isn't much.
+    fn memory(&mut self) -> Vec<u8>
+        ensures { self.new.slots ≡ self.old.slots }
+    {
+        let memory = mem::replace(&mut self.reply, Vec::new(self.alloc));
+        if memory.capacity() <= MOST_KEPT {
+            memory
+        } else {
+            Vec::new(self.alloc)
+        }
+    }
+
     /// The rows of a statement's reply, as bytes. A text that isn't UTF-8 is refused.
     fn rows(&mut self, connection: u32, text: &[u8]) -> R<Vec<u8>>
         ensures { IfOk result (λ bytes. (rows : List (SmallVec Value)) × (bytes.items ≡ rows_bytes rows)) }
     {
         let text = statement_text(text)?;
         let rows = self.engine.execute(connection, text)?;
-        bytes_of(self.alloc, rows.as_slice())
+        bytes_in(self.memory(), rows.as_slice())
     }
 
     /// The rows of the reply of a statement that was prepared, as bytes. A slot that isn't in use is refused, and bytes that are those of no
@@ -129,7 +146,7 @@ impl Session {
         let rows = self
             .engine
             .run_prepared(connection, statement, values.as_slice())?;
-        bytes_of(self.alloc, rows.as_slice())
+        bytes_in(self.memory(), rows.as_slice())
     }
 
     /// Reads a statement and keeps it. Answers its slot, and how many values it takes.

@@ -13,5 +13,5 @@ returns-clause-taken c =
     (λ has. ok_is_no_err rows _ (c.in_ok-rows.ensures.failed has).0)
     (λ hasn none. ok_is_no_err rows _ (c.in_ok-rows.ensures.numbered hasn none).0)
     (λ hasn some apart. ok_is_no_err rows _ (c.in_ok-rows.ensures.placed hasn some apart).0) in
-    beside (RunsWith c.args.self.now.slots c.args.slot c.args.values.now) c.bytes_of.result
+    beside (RunsWith c.args.self.now.slots c.args.slot c.args.values.now) c.bytes_in.result
     (statement, sym c.in-Some.ensures, (c.in_ok-values.values.items, ap length (sym c.as_slice.ensures.value) ∙ count, c.in_ok-values.ensures.found))
