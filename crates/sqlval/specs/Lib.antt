@@ -9,6 +9,7 @@ pub mod Names
 pub mod Order
 pub mod Refusals
 pub mod Sameness
+pub mod Spelled
 pub mod Faults
 pub mod Titles
 pub mod PageSizes

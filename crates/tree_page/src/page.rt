@@ -162,7 +162,8 @@ impl<'a> TreePage<'a> {
         }
     }
 
-    /// The first place on a page of a table whose rowid, or key, isn't less; by halving. (`Damaged(Cell, 0)` as for `cell`.)
+    /// The first place on a page of a table whose rowid, or key, isn't less; by halving, after a look at the last one, since most rows come after
+    /// it. (`Damaged(Cell, 0)` as for `cell`.)
     pub fn place(&self, rowid: i64) -> R<usize>
         ensures only { (node : Node) (numbers : List ℤ) → IsNode self.now.bytes self.now.start node
             → numbers_of node ≡ Some numbers
@@ -171,6 +172,9 @@ impl<'a> TreePage<'a> {
     {
         let mut low = 0;
         let mut high = self.len();
+        if high > 0 && self.number(high - 1)? < rowid {
+            return Ok(high);
+        }
         'halves: while low < high {
             let middle = low + (high - low) / 2;
             if self.number(middle)? < rowid {
