@@ -4,6 +4,7 @@ pub mod Division
 pub mod Groups
 pub mod Items
 pub mod Limits
+pub mod NumbersAmong
 pub mod OwnPlace
 pub mod Pairs
 pub mod Picked

@@ -12,6 +12,7 @@ ghost use Rattle.query_terms.specs.Values as meant;
 use crate::collating::{collation, manner_alone, manner_of_two};
 use crate::comparing::Manner;
 use crate::datum::Datum;
+use crate::finding::number_among;
 use crate::integers::integer_holds;
 use crate::numbers::word;
 use crate::operands::{
@@ -222,6 +223,9 @@ fn found_among<'a>(
     ensures { AnswersBy meant.of_truth
         (meant.value_among operand.now (value_of value.entry) (terms list.now) (seen env.now)) result }
 {
+    if let Some(found) = number_among(operand, value, list) {
+        return Ok(Some(found));
+    }
     let manner = manner_alone(operand);
     let mut so_far = Some(false);
     'terms: for term in list {

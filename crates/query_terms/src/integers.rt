@@ -23,7 +23,7 @@ use sqlval::{Affinity, Field, R};
 use std::alloc::Global;
 
 /// The integer that a value is.
-fn integer_in(value: Field<'_>) -> Option<i64>
+pub(crate) fn integer_in(value: Field<'_>) -> Option<i64>
     ensures { IfSome result (λ number. value_of value.entry ≡ the.Int number) }
 {
     match value {
@@ -33,7 +33,7 @@ fn integer_in(value: Field<'_>) -> Option<i64>
 }
 
 /// A number within 64 bits.
-fn fitting(number: i128) -> Option<i64>
+pub(crate) fn fitting(number: i128) -> Option<i64>
     ensures { IfSome result (λ word. word_of number ≡ Ok (the.Int word)) }
 {
     i64::try_from(number).ok()
@@ -55,7 +55,7 @@ fn exact(operator: Arithmetic, x: i64, y: i64) -> Option<i128>
 }
 
 /// Whether a side is compared as a text.
-fn is_text(affinity: Option<Affinity>) -> bool
+pub(crate) fn is_text(affinity: Option<Affinity>) -> bool
     ensures { result ≡ is_text affinity }
 {
     matches!(affinity, Some(Affinity::Text))

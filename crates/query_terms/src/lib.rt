@@ -5,6 +5,7 @@ mod collating;
 mod comparing;
 mod datum;
 mod evaluating;
+mod finding;
 mod integers;
 mod numbers;
 mod operands;
