@@ -1,12 +1,13 @@
 //! The arguments of aggregates at one row, which are refused there or not.
 
-ghost use Rattle.std.specs.Prelude.{◌≡◌, ◌++◌, map};
+ghost use Rattle.std.specs.Prelude.{◌≡◌, ◌++◌, IsTrue, Ok, map};
 ghost use Rattle.sqlval.specs.Fields.{value_of};
 ghost use Rattle.query_terms.specs.Outcome.{AnswersBy};
 ghost use Rattle.query_terms.specs.Rows.{seen};
 ghost use Rattle.query_terms.specs.Terms as tree;
 ghost use Rattle.query_terms.specs.Terms.{terms};
 ghost use Rattle.query_terms.specs.Values as meant;
+ghost use Rattle.query_terms.specs.Values.{Environment};
 ghost use Rattle.query_answer.specs.Checks.{among_checked, both_checked, checked, checked_in, lists_checked, passed};
 
 use query_terms::{Aggregate, Env, Node, Term, evaluate};
@@ -23,6 +24,18 @@ fn check_value(aggregate: Aggregate, value: Field<'_>) -> R<()>
     }
 }
 
+/// Whether an argument is a column of which an aggregate takes each value, so that it needn't be read.
+fn takes_each(aggregate: Aggregate, argument: &Term) -> bool
+    ensures { IsTrue result → (env : Environment) → checked (tree.Total aggregate argument.now) env ≡ Ok tt }
+{
+    match aggregate {
+        Aggregate::Count | Aggregate::Min | Aggregate::Max => {
+            matches!(&argument.node, Node::Cell(_, _, _, _))
+        }
+        _ => false,
+    }
+}
+
 /// Whether an aggregate's argument is refused.
 fn check_argument(alloc: Global, aggregate: Aggregate, argument: &Term, env: Env<'_>) -> R<()>
     ensures { AnswersBy (λ u. tt) (checked (tree.Total aggregate argument.now) (seen env.entry)) result }
@@ -30,6 +43,9 @@ fn check_argument(alloc: Global, aggregate: Aggregate, argument: &Term, env: Env
     match aggregate {
         Aggregate::CountAll => Ok(()),
         _ => {
+            if takes_each(aggregate, argument) {
+                return Ok(());
+            }
             let value = evaluate(alloc, argument, env)?;
             check_value(aggregate, value.as_field())
         }
