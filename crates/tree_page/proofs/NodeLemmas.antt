@@ -5,10 +5,13 @@ use Rattle.std.proofs.lemmas.List.{take_at, length-append, length-map, get_or-ma
 use Rattle.record.proofs.VarintLemmas.{some_is}
 use Rattle.tree_page.specs.declared.items.Kind.{Kind}
 use Rattle.tree_page.specs.declared.items.Kind.TheVariants.{TableLeaf, TableInterior, IndexLeaf, IndexInterior}
+use Rattle.std.specs.Int.{w64, cast_signed}
+use Rattle.record.specs.Varint.{varint_at}
+use Rattle.tree_page.specs.Payload.{table_most}
 use Rattle.tree_page.specs.Cells.{Pairwise, IsTreePage}
 use Rattle.tree_page.specs.Node.{Local, Node, Rows, Keys, Entries, Between, IsRowCell, IsKeyCell, IsEntryCell, IsBetweenCell, code_of, right_of, Say, IsNode}
 use Rattle.tree_page.specs.Reading.{Place, type_of, count_of, last_of, numbers_of}
-use Rattle.tree_page.specs.Bytes.{◌>>=◌, right_size, header_on, last_on, tail_on, leading_row, leading_key, leading_entry, leading_between, item_of, rest_of, after_cell, item_on, cell_on, number_on}
+use Rattle.tree_page.specs.Bytes.{◌>>=◌, right_size, header_on, last_on, tail_on, leading_local, leading_row, leading_rowid, leading_key, leading_entry, leading_between, item_of, rest_of, after_cell, item_on, cell_on, number_on}
 use Rattle.tree_page.proofs.HeaderLemmas.{then_some, same_length, front_again, last_again, no_last, tail_again}
 use Rattle.tree_page.proofs.CellLemmas.{row_again, key_again, entry_again, between_again}
 
@@ -144,6 +147,28 @@ numbers_count (Keys kids last) numbers e = sym (length-map kids (λ kid. kid.1))
 numbers_count (Entries entries) numbers e = absurd cc
 numbers_count (Between kids last) numbers e = absurd cc
 
+-- where a row is read, its rowid is
+rowid_here : (n : ℤ) (payload : Option (Local × List ℕ)) (row : ℤ × Local) → item_of (payload >>= λ p. Some ((n, p.0), p.1)) ≡ Some row → Some n ≡ Some row.0
+rowid_here n None row e = absurd cc
+rowid_here n (Some p) row e = ap (λ (r : ℤ × Local). Some r.0) (some_is e)
+
+rowid_after : (usable size : ℕ) (rowid : Option (ℕ × List ℕ)) (row : ℤ × Local)
+    → item_of (rowid >>= λ r. leading_local usable (table_most usable) size r.1 >>= λ p. Some ((cast_signed w64 r.0, p.0), p.1)) ≡ Some row
+    → (rowid >>= λ r. Some (cast_signed w64 r.0)) ≡ Some row.0
+rowid_after usable size None row e = absurd cc
+rowid_after usable size (Some r) row e = rowid_here (cast_signed w64 r.0) (leading_local usable (table_most usable) size r.1) row e
+
+rowid_of : (usable : ℕ) (size : Option (ℕ × List ℕ)) (row : ℤ × Local)
+    → item_of (size >>= λ s. varint_at s.1 >>= λ r. leading_local usable (table_most usable) s.0 r.1 >>= λ p. Some ((cast_signed w64 r.0, p.0), p.1)) ≡ Some row
+    → (size >>= λ s. varint_at s.1 >>= λ r. Some (cast_signed w64 r.0)) ≡ Some row.0
+rowid_of usable None row e = absurd cc
+rowid_of usable (Some s) row e = rowid_after usable s.0 (varint_at s.1) row e
+
+rowid_on : (usable : ℕ) (tail : Option (List ℕ)) (row : ℤ × Local) → (tail >>= λ bytes. item_of (leading_row usable bytes)) ≡ Some row → (tail >>= leading_rowid) ≡ Some row.0
+unfolding leading_row leading_rowid
+rowid_on usable None row e = absurd cc
+rowid_on usable (Some bytes) row e = rowid_of usable (varint_at bytes) row e
+
 -- it is read
 pub node_number : (page : List ℕ) (start : ℕ) (node : Node) (numbers : List ℤ) (index : ℕ) (d : ℤ) → IsNode page start node → numbers_of node ≡ Some numbers → index < length numbers
     → number_on (kind_of node) page start (kind_of node, count_of node) index ≡ Some (slice_index_or numbers index d)
@@ -151,7 +176,7 @@ unfolding number_on
 node_number page start (Rows rows) numbers index d is e less =
     let inside : index < length rows = omega (arith, numbers_count (Rows rows) numbers e, less) in
     let number = get_or-map (λ (row : ℤ × Local). row.0) rows index (pos 0, no_local) d inside in
-    ap (λ (o : Option (ℤ × Local)). o >>= λ row. Some row.0) (node_row page start rows index (pos 0, no_local) is inside)
+    rowid_on (length page) (tail_on page start (TableLeaf, length rows) index) (slice_index_or rows index (pos 0, no_local)) (node_row page start rows index (pos 0, no_local) is inside)
     ∙ ap (λ (n : ℤ). Some n) (sym number ∙ ap (λ (ns : List ℤ). slice_index_or ns index d) (some_is e))
 node_number page start (Keys kids last) numbers index d is e less =
     let inside : index < length kids = omega (arith, numbers_count (Keys kids last) numbers e, less) in

@@ -140,9 +140,16 @@ abbrev pub cell_on : List ℕ → ℕ → Kind × ℕ → ℕ → Option (List �
 cell_on page start header index =
     tail_on page start header index >>= λ tail. after_cell header.0 (length page) tail >>= λ rest. Some (take (length tail - length rest) tail)
 
+-- the rowid of a row, whatever lies after it
+unfoldable pub leading_rowid : List ℕ → Option ℤ
+leading_rowid bytes = do
+  size ← varint_at bytes
+  rowid ← varint_at size.1
+  Some (cast_signed w64 rowid.0)
+
 -- the rowid of a row, or the key of a child
 unfoldable pub number_on : Kind → List ℕ → ℕ → Kind × ℕ → ℕ → Option ℤ
-number_on TableLeaf page start header index = item_on leading_row page start header index >>= λ row. Some row.0
+number_on TableLeaf page start header index = tail_on page start header index >>= leading_rowid
 number_on TableInterior page start header index = item_on (λ usable. leading_key) page start header index >>= λ kid. Some kid.1
 number_on IndexLeaf page start header index = None
 number_on IndexInterior page start header index = None

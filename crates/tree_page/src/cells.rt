@@ -2,7 +2,7 @@
 
 ghost use Rattle.std.specs.Prelude.{◌≡◌, ◌≤◌, ◌<◌, ◌^◌, length, IfSome, option_map};
 ghost use Rattle.tree_page.specs.Payload.{least as least_part, index_most, held_size};
-ghost use Rattle.tree_page.specs.Bytes.{header_parts, leading_local, leading_row, leading_key, leading_entry, leading_between, after_cell, item_on, cell_on, number_on};
+ghost use Rattle.tree_page.specs.Bytes.{header_parts, leading_local, leading_row, leading_rowid, leading_key, leading_entry, leading_between, after_cell, item_on, cell_on, number_on};
 ghost use Rattle.tree_page.specs.Reading.{local_of, row_of, key_of, between_of};
 ghost use Rattle.tree_page.specs.Checking.{ends_on};
 
@@ -76,6 +76,16 @@ fn read_row(usable: u64, bytes: &[u8]) -> Option<(Row<'_>, &[u8])>
     let (payload, rest) = read_local(usable, usable.saturating_sub(35), size, rest)?;
     let rowid = rowid.cast_signed();
     Some((Row { rowid, payload }, rest))
+}
+
+/// A row's rowid; None if the bytes end before. What lies after it isn't looked at.
+#[tactic(auto, unfolding(crate::specs::Bytes::leading_rowid))]
+fn read_rowid(bytes: &[u8]) -> Option<i64>
+    ensures { result ≡ leading_rowid bytes.now }
+{
+    let (_, rest) = get_varint(bytes)?;
+    let (rowid, _) = get_varint(rest)?;
+    Some(rowid.cast_signed())
 }
 
 /// A child and its key, and the bytes after their cell; None if they end before.
@@ -159,13 +169,14 @@ pub fn find_between(page: &[u8], start: usize, header: Header, index: usize) -> 
     Some(read_between(page.len() as u64, tail)?.0)
 }
 
-/// The rowid of a row, or the key of a child, on a page of a table; None as for `find_row`, and on a page of an index.
+/// The rowid of a row, or the key of a child, on a page of a table; None where the page ends before it, or has no such cell, and on a page of an
+/// index.
 #[tactic(auto, unfolding(crate::specs::Bytes::number_on))]
 pub fn find_number(page: &[u8], start: usize, header: Header, index: usize) -> Option<i64>
     ensures { result ≡ number_on header.kind page.now start (header_parts header) index }
 {
     match header.kind {
-        Kind::TableLeaf => Some(find_row(page, start, header, index)?.rowid),
+        Kind::TableLeaf => read_rowid(read_tail(page, start, header, index)?),
         Kind::TableInterior => Some(find_key(page, start, header, index)?.rowid),
         Kind::IndexLeaf | Kind::IndexInterior => None,
     }
