@@ -228,11 +228,7 @@ module _ (old : PageMap) (size : ℕ) (l : Listed) (db : Database) (name : Name)
 
   -- ---- rows that are read
 
-  -- what was read by a rowid is its row alone
-  pub only_found : (rowid : ℤ) (values : List Value) → row t rowid ≡ Some values → (them : List Row) → FindsOneRow old size table rowid (Ok them) → them ≡ as_source (rowid, values) ∷ []
-  only_found rowid values at them finds = finds schema before after rows sized refl its_trees fit ∙ ap (λ (o : Option (List Value)). map as_source (one_or_none rowid o)) (there rowid values at)
-
-  -- and none where there is none
+  -- what was read by a rowid is its row, or none where there is none
   pub found_so : (rowid : ℤ) (them : List Row) → FindsOneRow old size table rowid (Ok them) → option_map as_row (slice_get them 0) ≡ option_map (λ values. (rowid, values)) (row t rowid)
   found_so rowid them finds =
       ap (λ (rs : List Row). option_map as_row (slice_get rs 0)) (finds schema before after rows sized refl its_trees fit)
@@ -248,34 +244,25 @@ module _ (old : PageMap) (size : ℕ) (l : Listed) (db : Database) (name : Name)
 -- ---- calls
 
 -- a call that was refused before anything changed
-pub sets_none : (old new : PageMap) (size : ℕ) (table : Table) (rowid : ℤ) (values : List Value) (fault : Fault) (result : Result stored.TableRow Fault) → IsErrAnd result (λ e. e ≡ fault)
-    → ((l : Listed) (db : Database) (name : Name) (t : database.Table) → StoresTable old size l db name table t → IsOutsideOrFull fault) → SetsIn old new size table rowid values result
-sets_none old new size table rowid values fault (Ok now) same why = absurd same
-sets_none old new size table rowid values fault (Err e) same why = λ l db name t before is at stores. inl (subst IsOutsideOrFull (sym same) (why l db name t is))
-
-pub takes_none : (old new : PageMap) (size : ℕ) (table : Table) (rowid : ℤ) (fault : Fault) (result : Result ⊤ Fault) → IsErrAnd result (λ e. e ≡ fault)
-    → ((l : Listed) (db : Database) (name : Name) (t : database.Table) → StoresTable old size l db name table t → IsOutsideOrFull fault) → TakesFrom old new size table rowid result
-takes_none old new size table rowid fault (Ok done) same why = absurd same
-takes_none old new size table rowid fault (Err e) same why = λ l db name t before is at. subst IsOutsideOrFull (sym same) (why l db name t is)
+pub sets_none : (old new : PageMap) (size : ℕ) (table : Table) (was : TableRow) (values : List Value) (fault : Fault) (result : Result stored.TableRow Fault) → IsErrAnd result (λ e. e ≡ fault) → IsOutsideOrFull fault
+    → SetsIn old new size table was values result
+sets_none old new size table was values fault (Ok now) same why = absurd same
+sets_none old new size table was values fault (Err e) same why = λ l db name t is at stores. inl (subst IsOutsideOrFull (sym same) why)
 
 -- a row is inserted
 pub inserts_into : Laws → ListsIndexes → (old new : PageMap) (size : ℕ) (table : Table) (by_column : List (Option ℕ)) (given : List Value) (result : Result stored.TableRow Fault)
     → InsertsOneRow old new size table by_column given result → InsertsInto old new size table by_column given result
 inserts_into laws indexes old new size table by_column given result inserts l db name t places is set = row_inserts old size l db name table t is laws indexes by_column places given set new result inserts
 
--- the row that was read is set
-pub sets_in : Laws → ListsIndexes → (old new : PageMap) (size : ℕ) (table : Table) (rowid : ℤ) (given : List Value) (them : List Row) (result : Result stored.TableRow Fault) → FindsOneRow old size table rowid (Ok them)
-    → TurnsRow old new size table (literals 0 given) (row_at them 0) result → SetsIn old new size table rowid given result
-sets_in laws indexes old new size table rowid given them result finds turns l db name t before is at stores =
-    row_sets old size l db name table t is laws indexes rowid before given at stores new (row_at them 0) result
-    (ap (λ (rs : List Row). row_at rs 0) (only_found old size l db name table t is rowid before at them finds)) turns
+-- a row that is there is set
+pub sets_in : Laws → ListsIndexes → (old new : PageMap) (size : ℕ) (table : Table) (was : TableRow) (given : List Value) (source : Row) (result : Result stored.TableRow Fault) → source ≡ as_source was
+    → TurnsRow old new size table (literals 0 given) source result → SetsIn old new size table was given result
+sets_in laws indexes old new size table was given source result from turns l db name t is at stores =
+    row_sets old size l db name table t is laws indexes was.0 was.1 given at stores new source result from turns
 
--- the row that was read and copied is taken out
-pub takes_from : Laws → (old new : PageMap) (size : ℕ) (table : Table) (rowid : ℤ) (them : List Row) (gone : TableRow) (result : Result ⊤ Fault) → FindsOneRow old size table rowid (Ok them) → gone ≡ as_row (row_at them 0)
-    → TakesOneRow old new size table gone result → TakesFrom old new size table rowid result
-takes_from laws old new size table rowid them gone result finds copied takes l db name t before is at =
-    row_takes old size l db name table t is laws rowid before at new result
-    (subst (λ (r : TableRow). TakesOneRow old new size table r result) (copied ∙ ap (λ (rs : List Row). as_row (row_at rs 0)) (only_found old size l db name table t is rowid before at them finds)) takes)
+-- a row that is there is taken out
+pub takes_from : Laws → (old new : PageMap) (size : ℕ) (table : Table) (was : TableRow) (result : Result ⊤ Fault) → TakesOneRow old new size table was result → TakesFrom old new size table was result
+takes_from laws old new size table was result takes l db name t is at = row_takes old size l db name table t is laws was.0 was.1 at new result takes
 
 -- the row of a rowid is found
 pub finds_none : (old : PageMap) (size : ℕ) (table : Table) (rowid : ℤ) (fault : Fault) (result : Result (Option stored.TableRow) Fault) → IsErrAnd result (λ e. e ≡ fault) → FindsOneRow old size table rowid (Err fault)

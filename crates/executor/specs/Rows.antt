@@ -97,20 +97,19 @@ pub record IsRowSet (new : PageMap) (size : ℕ) (l : Listed) (db : Database) (n
   pub rowid_is : updated_rowid t rowid values ≡ Ok now.0
   pub values_are : now.1 ≡ values
 
--- The row of a rowid, which is there, is given other values, and answered as it is then; or the call is refused as that is, for want of memory
--- or pages, by a disk, or for an index that is too wide.
-abbrev pub SetsIn : PageMap → PageMap → ℕ → Table → ℤ → List Value → Result stored.TableRow Fault → Type 0
-SetsIn old new size table rowid values result = (l : Listed) (db : Database) (name : Name) (t : database.Table) (before : List Value)
-    → StoresTable old size l db name table t → row t rowid ≡ Some before → AreStoredBy t values
-    → MatchResult result (λ now. IsRowSet new size l db name t rowid values (row_of now)) (IsRefusedAs (values_put db name t rowid values) table)
+-- A row that is there is given other values, and answered as it is then; or the call is refused as that is, for want of memory or pages, by a
+-- disk, or for an index that is too wide.
+abbrev pub SetsIn : PageMap → PageMap → ℕ → Table → TableRow → List Value → Result stored.TableRow Fault → Type 0
+SetsIn old new size table was values result = (l : Listed) (db : Database) (name : Name) (t : database.Table) → StoresTable old size l db name table t
+    → row t was.0 ≡ Some was.1 → AreStoredBy t values
+    → MatchResult result (λ now. IsRowSet new size l db name t was.0 values (row_of now)) (IsRefusedAs (values_put db name t was.0 values) table)
 
 -- ---- DELETE
 
--- The row of a rowid, which is there, is taken out of a table; or memory or pages are short, or a disk's call failed.
-abbrev pub TakesFrom : PageMap → PageMap → ℕ → Table → ℤ → Result ⊤ Fault → Type 0
-TakesFrom old new size table rowid result = (l : Listed) (db : Database) (name : Name) (t : database.Table) (before : List Value)
-    → StoresTable old size l db name table t → row t rowid ≡ Some before
-    → MatchResult result (λ done. Stores new size l (with_object db name (ATable (without_row rowid t)))) IsOutsideOrFull
+-- A row that is there is taken out of a table; or memory or pages are short, or a disk's call failed.
+abbrev pub TakesFrom : PageMap → PageMap → ℕ → Table → TableRow → Result ⊤ Fault → Type 0
+TakesFrom old new size table was result = (l : Listed) (db : Database) (name : Name) (t : database.Table) → StoresTable old size l db name table t
+    → row t was.0 ≡ Some was.1 → MatchResult result (λ done. Stores new size l (with_object db name (ATable (without_row was.0 t)))) IsOutsideOrFull
 
 -- ---- rows that are read
 

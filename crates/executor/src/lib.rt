@@ -20,8 +20,8 @@ pub use dropping::drop_object;
 pub use inserting::insert;
 pub use reading::read;
 pub use rows::{
-    all_rows, insert_row, places_by_column, row_at, rows_sought, set_row, stored_values_stay,
-    take_row,
+    all_rows, insert_row, places_by_column, row_at, rows_sought, set_row, source_row,
+    stored_values_stay, take_row, value_copies,
 };
 pub use triggers::create_trigger;
 pub use updating::update_rows;

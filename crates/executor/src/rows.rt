@@ -1,6 +1,6 @@
 //! One row of a stored database's table, without the triggers around it, and all rows of a table or view.
 
-ghost use Rattle.std.specs.Prelude.{◌≡◌, length, map, option_map, slice_get, slice_set, ℕ, IsTrue, List, None, Some};
+ghost use Rattle.std.specs.Prelude.{◌≡◌, ◌∷◌, [], length, map, option_map, slice_get, slice_set, ℕ, IsTrue, List, None, Some};
 ghost use Rattle.sqlval.specs.Faults.{IsOrMemory};
 ghost use Rattle.sqlval.specs.declared.value.Value.{Value as Stored};
 ghost use Rattle.pages.specs.Calls.{Causes, Stays};
@@ -10,6 +10,7 @@ ghost use Rattle.query_terms.specs.Terms.{Const, Term as Asked};
 ghost use Rattle.row_change.specs.Agreement.{IsSetFor};
 ghost use Rattle.row_change.specs.Meaning.{as_row};
 ghost use Rattle.row_change.specs.NewRows.{row_of};
+ghost use Rattle.row_scan.specs.Sources.{as_source};
 ghost use Rattle.executor.specs.Rows.{FindsAmong, FindsIn, InsertsInto, ReadsAll, SetsIn, StoredStay, TakesFrom, literals};
 
 use crate::reading::{MAX_VIEWS, view_rows};
@@ -108,20 +109,48 @@ fn literal_sets(alloc: Global, values: &[Value]) -> R<Vec<(usize, Term)>>
     Ok(sets)
 }
 
-/// Gives a row of a table other values, which are as its columns store them, changes its entries, and answers the row as it is then. No trigger is
-/// run. (What the table refuses of the row; `RowidMismatch` where no integer is in the rowid's own column; `Unique` for a rowid or a key that another
-/// row has; `TooLong` for an index of more than 999 columns; `Memory`, `Io`, `Full`. Then some pages may have changed.)
+/// Copies of values. (`Memory` alone.)
+pub fn value_copies(alloc: Global, values: &[Value]) -> R<Vec<Value>>
+    ensures { IsOrMemory (λ copies. copies.items ≡ values.now) result }
+{
+    let mut copies = Vec::with_capacity(alloc, values.len())?;
+    'values: for value in values {
+        copies.push(value.copy(alloc)?)?;
+    }
+    Ok(copies)
+}
+
+/// A row of a table as a source's. (`Memory` alone.)
+pub fn source_row(alloc: Global, row: &TableRow) -> R<SourceRow>
+    ensures { IsOrMemory (λ made. made ≡ as_source (row_of row.now)) result }
+{
+    let values = Many::from_vec(value_copies(alloc, &row.values)?);
+    Ok(SourceRow::made(Value::Int(row.rowid), values))
+}
+
+/// A row of a table as the only one of a source. (`Memory`.)
+fn only_row(alloc: Global, row: &TableRow) -> R<Many<SourceRow>>
+    ensures { IsOrMemory (λ rows. rows ≡ as_source (row_of row.now) ∷ []) result }
+{
+    let mut rows = Many::new(alloc);
+    rows.push(source_row(alloc, row)?)?;
+    Ok(rows)
+}
+
+/// Gives a row that is in a table other values, which are as its columns store them, changes its entries, and answers the row as it is then. No
+/// trigger is run. (What the table refuses of the row; `RowidMismatch` where no integer is in the rowid's own column; `Unique` for a rowid or a key
+/// that another row has; `TooLong` for an index of more than 999 columns; `Memory`, `Io`, `Full`. Then some pages may have changed.)
 pub fn set_row<P: WritePages>(
     alloc: Global,
     pages: &mut P,
     table: &Table,
-    rowid: i64,
+    row: &TableRow,
     values: &[Value],
 ) -> R<TableRow>
     ensures set { IsTrue (P.Pages.tells (P.Pages.below pages.old))
         → SetsIn (P.Pages.map pages.old) (P.Pages.map pages.new)
         (P.Pages.limits (P.Pages.below pages.old)).page
-        table.now rowid values.now result }
+        table.now (row_of row.now) values.now result }
     ensures kept { P.Pages.below pages.new ≡ P.Pages.below pages.old }
     ensures causes { Causes result (P.Pages.failures pages.old) (P.Pages.failures pages.new)
         (P.Pages.count pages.new ≡ (P.Pages.limits (P.Pages.below pages.new)).most) }
@@ -129,26 +158,24 @@ pub fn set_row<P: WritePages>(
     other_rows_are_listed();
     named_databases_are_one();
     listed_indexes_are_found();
-    let rows = db_write::row_at(alloc, pages, table, rowid)?;
+    let rows = only_row(alloc, row)?;
     let sets = literal_sets(alloc, values)?;
     db_write::turn_row(alloc, pages, table, &sets, &rows, 0)
 }
 
-/// Takes the row of a rowid out of a table, with its entries. No trigger is run. (`Memory`, `Io`, `Full`. Then some pages may have changed.)
-pub fn take_row<P: WritePages>(alloc: Global, pages: &mut P, table: &Table, rowid: i64) -> R<()>
+/// Takes a row that is in a table out of it, with its entries. No trigger is run. (`Memory`, `Io`, `Full`. Then some pages may have changed.)
+pub fn take_row<P: WritePages>(alloc: Global, pages: &mut P, table: &Table, row: &TableRow) -> R<()>
     ensures taken { IsTrue (P.Pages.tells (P.Pages.below pages.old))
         → TakesFrom (P.Pages.map pages.old) (P.Pages.map pages.new)
         (P.Pages.limits (P.Pages.below pages.old)).page
-        table.now rowid result }
+        table.now (row_of row.now) result }
     ensures kept { P.Pages.below pages.new ≡ P.Pages.below pages.old }
     ensures causes { Causes result (P.Pages.failures pages.old) (P.Pages.failures pages.new)
         (P.Pages.count pages.new ≡ (P.Pages.limits (P.Pages.below pages.new)).most) }
 {
     other_rows_are_listed();
     named_databases_are_one();
-    let rows = db_write::row_at(alloc, pages, table, rowid)?;
-    let row = row_copy(alloc, &rows, 0)?;
-    db_write::take_row(alloc, pages, table, &row)
+    db_write::take_row(alloc, pages, table, row)
 }
 
 /// A copy of the first row, if there is one. (`Memory`.)

@@ -1,7 +1,7 @@
 -- What the triggers around a row see, that all is known of them, and which they are.
-use Rattle.std.proofs.Common.{◌≡◌, refl, sym, ap, subst, ◌∙◌, ◌≤◌, ℕ, ℤ, suc, Bool, true, false, List, [], ◌∷◌, length, map, Option, Some, None, Ok, Err}
+use Rattle.std.proofs.Common.{◌≡◌, refl, sym, ap, subst, ◌∙◌, ◌≤◌, ℕ, ℤ, suc, Bool, true, false, List, [], ◌∷◌, length, map, Option, Some, None, Ok, Err, arith}
 use Rattle.std.proofs.lemmas.List.Elements.{Contains-append_left, Contains-append_right, Contains-push}
-use Rattle.std.specs.Prelude.{Result, ⊤, IsErrAnd, flat_map, if◌then◌else◌}
+use Rattle.std.specs.Prelude.{Result, ⊤, IsErrAnd, flat_map, option_map, if◌then◌else◌}
 use Rattle.std.specs.List.{AllByRecursion, Contains, list_any}
 use Rattle.std.specs.declared.alloc.Global.{Global}
 use Rattle.std.specs.declared.rc.Rc.{Rc}
@@ -29,20 +29,24 @@ use Rattle.query_names.specs.Queries.{resolve_query}
 use Rattle.query_names.specs.Views.{unless_around, view_columns}
 use Rattle.query_names.specs.declared.reading.Reading.{Reading}
 use Rattle.query_names.specs.declared.scope.ScopeColumn.{ScopeColumn}
+use Rattle.query_names.specs.declared.scope.ScopeSource.{ScopeSource}
 use Rattle.query_bind.specs.Named.{AreOuter}
 use Rattle.query_terms.specs.Values.{Row}
 use Rattle.row_change.specs.Constraints.{row_of}
+use Rattle.row_change.specs.Changes.{Outer}
 use Rattle.row_change.specs.RowChanges.{Event, Firing, Inserting}
 use Rattle.trigger.specs.Binding.{Aim, aim_of, triggers_for}
 use Rattle.trigger.specs.Triggers.{Runner, fired, outer_of, run_trigger, triggers_at}
 use Rattle.trigger_bind.specs.Choosing.{named_definition}
 use Rattle.trigger_bind.specs.Knowing.{IsRowOf, KnowsProgram}
-use Rattle.executor_programs.specs.Acts.{IsAct, IsRowIn}
-use Rattle.executor_programs.specs.Begun.{IsBegunAt, both_rows}
+use Rattle.executor_programs.specs.Acts.{AreSetOff, IsAct, IsBareAct, IsRowIn}
+use Rattle.executor_programs.specs.Begun.{IsBegunAt, IsSeenAt, as_seen, both_rows, old_in}
 use Rattle.executor_programs.specs.Outer.{Shows, only}
 use Rattle.executor_programs.specs.Running.{KnowsEach, KnowsRows, OnEach, Runs, definitions}
 use Rattle.executor_programs.specs.declared.acts.Act.{Act}
 use Rattle.executor_programs.specs.declared.outer.OuterRows.{OuterRows}
+use Rattle.executor_programs.specs.declared.rows.AtRow.{AtRow}
+use Rattle.executor_programs.specs.declared.rows.AtRow.TheVariants as at_row
 use Rattle.executor_programs.specs.declared.rows.Begun.{Begun}
 use Rattle.executor_programs.specs.declared.rows.Begun.TheVariants as begin
 use Rattle.executor_programs.proofs.Folding.{RunsTo}
@@ -66,14 +70,37 @@ as_long n event cs has_rowid (Some new) None = refl
 as_long n event cs has_rowid None (Some old) = refl
 as_long n event cs has_rowid (Some new) (Some old) = refl
 
-pub shows_row : (l : Listed) (c : Change) (time : TriggerTime) (act : Act) (f : Firing) (o : OuterRows) → IsAct l c time act → IsRowIn l (aim_of c) f → o.scope.now ≡ act.scope.items → o.rows.now ≡ both_rows f.new f.old
-    → Shows o (outer_of f)
-shows_row l c time act f o is row scope rows = record {
-  scope = scope ∙ is.scope f row;
+-- the triggers of a time, and what they see, are those around each row
+pub set_off_around : (l : Listed) (c : Change) (first time : TriggerTime) (act : Act) (scope : List ScopeSource) (triggers : List (Rc Trigger Global)) → IsAct l c first act → scope ≡ act.scope.items
+    → ((length triggers ≡ 0 → ⊥) → IsBareAct first act → ⊥) → OnEach l (λ db. definitions triggers ≡ triggers_at time (aim_of c).event db (aim_of c).target) → AreSetOff l c time scope triggers
+set_off_around l c first time act scope triggers is same part those = record {
+  sees = λ f some row. same ∙ is.scope f (part some) row;
+  known = subst AreOuter (sym same) is.known;
+  those = those;
+}
+
+pub shows_so : (l : Listed) (c : Change) (time : TriggerTime) (scope : List ScopeSource) (triggers : List (Rc Trigger Global)) (f : Firing) (o : OuterRows) → AreSetOff l c time scope triggers → (length triggers ≡ 0 → ⊥)
+    → IsRowIn l (aim_of c) f → o.scope.now ≡ scope → o.rows.now ≡ both_rows f.new f.old → Shows o (outer_of f)
+shows_so l c time scope triggers f o these some row same rows = record {
+  scope = same ∙ these.sees f some row;
   rows = rows ∙ both_only f.target f.event f.columns f.has_rowid f.new f.old;
-  known = subst AreOuter (is.scope f row) is.known;
+  known = subst AreOuter (these.sees f some row) these.known;
   as_many = as_long f.target f.event f.columns f.has_rowid f.new f.old;
 }
+
+pub shows_row : (l : Listed) (c : Change) (act : Act) (f : Firing) (o : OuterRows) → IsAct l c InsteadOf act → IsRowIn l (aim_of c) f → o.scope.now ≡ act.scope.items → o.rows.now ≡ both_rows f.new f.old → Shows o (outer_of f)
+shows_row l c act f o is row scope rows = record {
+  scope = scope ∙ is.scope f no_table row;
+  rows = rows ∙ both_only f.target f.event f.columns f.has_rowid f.new f.old;
+  known = subst AreOuter (is.scope f no_table row) is.known;
+  as_many = as_long f.target f.event f.columns f.has_rowid f.new f.old;
+}
+  where
+    not_before : InsteadOf ≡ Before → ⊥
+    not_before e = absurd cc
+
+    no_table : IsBareAct InsteadOf act → ⊥
+    no_table is = not_before is.0
 
 -- ---- that all is known
 
@@ -120,6 +147,12 @@ module _ (l : Listed) (c : Change) (time : TriggerTime) (triggers : List (Rc Tri
       (these held.rows_at db held.of_listed ∙ sym (ap (λ (n : Name). triggers_at time f.event db n) row.target ∙ ap (λ (e : Event). triggers_at time e db (aim_of c).target) row.event))
       (subst (λ (ns : List Name). RunsTo new size l (fold_answer (run_trigger run ns (outer_of f)) db (definitions triggers)) result) same (runs db held))
 
+-- no trigger does nothing
+pub fires_nothing : (pages : PageMap) (size : ℕ) (l : Listed) (run : Runner) (names : List Name) (seen : Outer) (triggers : List (Rc Trigger Global)) → length triggers ≡ 0
+    → Runs pages pages size l (λ db. fold_answer (run_trigger run names seen) db (definitions triggers)) (Ok tt)
+fires_nothing pages size l run names seen [] none db held = record { made = db; is = refl; stored = held }
+fires_nothing pages size l run names seen (t ∷ ts) none db held = absurd (omega (arith, none))
+
 -- ---- a view has no rowid
 
 view_without : (v : View) (k : Checked Reading) → (meant (view_columns v k)).1 ≡ false
@@ -152,10 +185,14 @@ abbrev some_firing : Option Row → Option Row → Firing
 some_firing new old = record { target = []; event = Inserting; columns = []; has_rowid = false; new = new; old = old }
 
 -- some event has these rows
-pub firing_for : (b : Begun) → (f : Firing) × IsBegunAt b f
+firing_for : (b : Begun) → (f : Firing) × IsBegunAt b f
 firing_for (begin.Insert rowid values) = (some_firing (Some (record { rowid = rowid; values = values.items })) None, (refl, refl))
 firing_for (begin.Update old rowid values) = (some_firing (Some (record { rowid = rowid; values = values.items })) (Some (row_of old.rowid old.values.items)), (refl, refl))
 firing_for (begin.Delete old) = (some_firing None (Some (row_of old.rowid old.values.items)), (refl, refl))
+
+pub firing_at : (e : AtRow) → (f : Firing) × IsSeenAt e f
+firing_at (at_row.Before b) = firing_for b.now
+firing_at (at_row.After b now) = (some_firing (option_map as_seen now) (option_map as_seen (old_in b.now)), (refl, refl))
 
 not_io : (f : Fault) → f ≡ fault.Memory → f ≡ fault.Io → ⊥
 not_io f e i = absurd cc

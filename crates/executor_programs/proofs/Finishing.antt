@@ -1,11 +1,9 @@
 -- The change of a row of a listed table after the triggers before it ran.
 use Rattle.std.proofs.Common.{◌≡◌, ◌⊎◌, inl, inr, refl, sym, ap, subst, ◌∙◌, ℕ, ℤ, Bool, true, false, cond, List, [], ◌∷◌, Option, Some, None, Result, Ok, Err}
-use Rattle.std.proofs.lemmas.Bool.{false≢true}
-use Rattle.std.specs.Global.{Vec}
 use Rattle.std.specs.List as list
 use Rattle.std.specs.List.{list_any}
 use Rattle.std.specs.Prelude.{IsErrAnd, MatchResult, option_map, zip, ◌||◌}
-use Rattle.sqlval.specs.Faults.{IsOrMemory, IsOutside}
+use Rattle.sqlval.specs.Faults.{IsOutside}
 use Rattle.sqlval.specs.Refusals.{Answer, ◌then◌, Refusal, NoSuch, RowChangedBefore, refusal_of}
 use Rattle.sqlval.specs.declared.fault.Fault.{Fault}
 use Rattle.sqlval.specs.declared.value.Value.{Value}
@@ -32,7 +30,7 @@ use Rattle.trigger_names.specs.Resolved.{names_set}
 use Rattle.db_pages.specs.Stored.{Stores}
 use Rattle.executor.specs.Rows.{AreStoredBy, IsRowSet, IsRowStored, StoresTable, still, values_put}
 use Rattle.executor_programs.specs.Acts.{IsItemOf, IsTableAct}
-use Rattle.executor_programs.specs.Begun.{IsBetween, IsFinished, Values, both_rows, given_in}
+use Rattle.executor_programs.specs.Begun.{IsBetween, IsFinished, IsUntouched, Values, given_in}
 use Rattle.executor_programs.specs.Rows.{finished, values_in}
 use Rattle.executor_programs.specs.Running.{IsRunRefusal}
 use Rattle.executor_programs.specs.declared.acts.Act.{Act}
@@ -40,6 +38,7 @@ use Rattle.executor_programs.specs.declared.acts.TableItem.{TableItem}
 use Rattle.executor_programs.specs.declared.acts.TableItem.TheVariants as item
 use Rattle.executor_programs.specs.declared.rows.Begun.TheVariants as begin
 use Rattle.executor_programs.proofs.Beginning.{IsHere, here, row_in, stores_table, values_now}
+use Rattle.executor_programs.proofs.SameRows.{as_it_was, same_values}
 
 -- ---- answers with an event
 
@@ -122,6 +121,9 @@ read_before {P} {K} below tells limits pages Q old mid kept same says told =
 
 -- ---- INSERT
 
+abbrev some_seen : Row → Option Row
+some_seen r = Some r
+
 some_items : (vs ws : List Value) → (let l : Answer (List Value) = Ok vs in l) ≡ Ok ws → vs ≡ ws
 some_items vs ws e = cc
 
@@ -161,15 +163,16 @@ module _ (l : Listed) (c : Change) (db : Database) (f : Firing) (table : Table) 
   insert_fails : (fault : Fault) → IsRefusedAs (insert_row still target act.places.items db given.items) table fault → IsRunRefusal l (finished c (item.Insert given) f db) fault
   insert_fails fault why = refused_as l table target (insert_row still target act.places.items db given.items) (finished c (item.Insert given) f db) fault named both_are why
 
-  inserted : (new : PageMap) (size : ℕ) (made : stored_row.TableRow) (rows : List (List Row)) → IsRowStored new size l db target now_table act.places.items given.items (pair_of made)
-      → rows ≡ both_rows (Some (row_of made.rowid made.values.items)) None → IsFinished new size l c (finished c (item.Insert given) f db) rows
-  inserted new size made rows is rows_are = record {
+  inserted : (new : PageMap) (size : ℕ) (made : stored_row.TableRow) → IsRowStored new size l db target now_table act.places.items given.items (pair_of made)
+      → IsFinished new size l c (finished c (item.Insert given) f db) (begin.Insert rowid kept) (Some made)
+  inserted new size made is = record {
     made = is.stores.made;
     f = event_in now_table kept.items made.rowid;
     is = known ∙ last (put_in now_table kept.items made.rowid) (event_in now_table kept.items made.rowid) is.stores.made (ap first_of (sym known) ∙ (sym both_are ∙ is.stores.is));
     stored = is.stores.stored;
     row = row_in l c table h.rows Inserting (Some (row_of made.rowid (with_rowid now_table made.rowid kept.items))) None named kind refl refl;
-    rows_are = rows_are ∙ ap (λ (vs : List Value). both_rows (Some (row_of made.rowid vs)) None) (is.row.are ∙ ap (with_rowid now_table made.rowid) same_values);
+    new_is = ap (λ (vs : List Value). some_seen (row_of made.rowid vs)) (sym (is.row.are ∙ ap (with_rowid now_table made.rowid) same_values));
+    old_is = refl;
   }
     where
       same_values : is.row.values ≡ kept.items
@@ -203,17 +206,16 @@ insert_failed finds old size l c db f table act (item.Update id) rowid kept by_c
 insert_failed finds old size l c db f table act (item.Delete id) rowid kept by_column given fault by_is same held tabled kind between says = absurd between.for
 
 pub insert_done : FindsListed → (old new : PageMap) (size : ℕ) (l : Listed) (c : Change) (db : Database) (f : Firing) (table : Table) (act : Act) (i : TableItem) (rowid : Value) (kept : Values) (by_column : List (Option ℕ)) (given : List Value)
-    (made : stored_row.TableRow) (rows : List (List Row)) → by_column ≡ act.by_column.items → given_in i ≡ given → Stores old size l db → IsTableAct l c table act → IsItemOf c table act i
+    (made : stored_row.TableRow) → by_column ≡ act.by_column.items → given_in i ≡ given → Stores old size l db → IsTableAct l c table act → IsItemOf c table act i
     → IsBetween l c table act i (begin.Insert rowid kept) f → Inserts old size table by_column given (λ l db name t places. IsRowStored new size l db name t places given (pair_of made))
-    → rows ≡ both_rows (Some (row_of made.rowid made.values.items)) None → IsFinished new size l c (finished c i f db) rows
-insert_done finds old new size l c db f table act (item.Insert g) rowid kept by_column given made rows by_is same held tabled (kind, sets) between says rows_are =
+    → IsFinished new size l c (finished c i f db) (begin.Insert rowid kept) (Some made)
+insert_done finds old new size l c db f table act (item.Insert g) rowid kept by_column given made by_is same held tabled (kind, sets) between says =
     let h = here finds old size l db c table held tabled.named in
-    inserted l c db f table act g rowid kept h tabled.named kind between new size made rows
+    inserted l c db f table act g rowid kept h tabled.named kind between new size made
     (subst (λ (vs : List Value). IsRowStored new size l db (aim_of c).target (with_rows table h.rows) act.places.items vs (pair_of made)) (sym same)
     (says l db (aim_of c).target (with_rows table h.rows) act.places.items (stores_table old size l db c table held tabled.named h) (set_for table act by_column g.items given by_is same sets)))
-    rows_are
-insert_done finds old new size l c db f table act (item.Update id) rowid kept by_column given made rows by_is same held tabled kind between says rows_are = absurd between.for
-insert_done finds old new size l c db f table act (item.Delete id) rowid kept by_column given made rows by_is same held tabled kind between says rows_are = absurd between.for
+insert_done finds old new size l c db f table act (item.Update id) rowid kept by_column given made by_is same held tabled kind between says = absurd between.for
+insert_done finds old new size l c db f table act (item.Delete id) rowid kept by_column given made by_is same held tabled kind between says = absurd between.for
 
 -- ---- a row that is as it was
 
@@ -222,13 +224,14 @@ pub found_same : (found : Option stored_row.TableRow) (old : stored_row.TableRow
     → same ≡ same_row (option_map (λ (r : stored_row.TableRow). r.values.items) found) old.values.items → same ≡ wanted → same_row (row t old.rowid) old.values.items ≡ wanted
 found_same found old t same wanted e is tested = ap (λ (o : Option (List Value)). same_row o old.values.items) (sym (values_now found (row t old.rowid) old.rowid e)) ∙ (sym is ∙ tested)
 
-is_there : (o : Option (List Value)) (vs : List Value) → same_row o vs ≡ true → (ws : List Value) × (o ≡ Some ws)
-is_there None vs e = absurd (false≢true e)
-is_there (Some ws) vs e = (ws, refl)
+-- a row that has its values is as it was
+pub is_known : (t : database.Table) (old : stored_row.TableRow) → row t old.rowid ≡ Some old.values.items → same_row (row t old.rowid) old.values.items ≡ true
+is_known t old is = ap (λ (o : Option (List Value)). same_row o old.values.items) is ∙ same_values old.values.items
 
 -- what the call that expects the row unchanged says
-abbrev pub Expects : PageMap → ℕ → Table → (Listed → Database → Name → database.Table → Type 0) → Type 0
-Expects old size table So = (l : Listed) (db : Database) (name : Name) (t : database.Table) → StoresTable old size l db name table t → So l db name t
+abbrev pub Expects : PageMap → ℕ → Table → Bool → stored_row.TableRow → (Listed → Database → Name → database.Table → Type 0) → Type 0
+Expects old size table alone was So = (l : Listed) (db : Database) (name : Name) (t : database.Table) → StoresTable old size l db name table t
+    → (alone ≡ true → row t was.rowid ≡ Some was.values.items) → So l db name t
 
 abbrev pub NotSame : stored_row.TableRow → Fault → database.Table → Type 0
 NotSame was fault t = IsOutside fault ⊎ ((same_row (row t was.rowid) was.values.items ≡ false) × (refusal_of fault ≡ RowChangedBefore))
@@ -290,77 +293,80 @@ module _ (l : Listed) (c : Change) (db : Database) (f : Firing) (table : Table) 
     update_fails : (fault : Fault) → IsRefusedAs (values_put db aimed table_now was.rowid kept.items) table fault → IsRunRefusal l (finished c (item.Update was.rowid) f db) fault
     update_fails fault why = refused_as l table aimed (values_put db aimed table_now was.rowid kept.items) (finished c (item.Update was.rowid) f db) fault named put_is why
 
-    updated : (new : PageMap) (size : ℕ) (now : stored_row.TableRow) (rows : List (List Row)) → IsRowSet new size l db aimed table_now was.rowid kept.items (pair_of now)
-        → rows ≡ both_rows (Some (row_of now.rowid now.values.items)) (Some (row_of was.rowid was.values.items)) → IsFinished new size l c (finished c (item.Update was.rowid) f db) rows
-    updated new size now rows is rows_are = record {
+    updated : (new : PageMap) (size : ℕ) (now : stored_row.TableRow) → IsRowSet new size l db aimed table_now was.rowid kept.items (pair_of now)
+        → IsFinished new size l c (finished c (item.Update was.rowid) f db) (begin.Update was rowid kept) (Some now)
+    updated new size now is = record {
       made = is.stores.made;
       f = update_event was.values.items kept.items table_now now.rowid;
       is = known ∙ last (put_at kept.items table_now now.rowid) (update_event was.values.items kept.items table_now now.rowid) is.stores.made (ap first_of (sym known) ∙ (sym put_is ∙ is.stores.is));
       stored = is.stores.stored;
       row = row_in l c table h.rows (Updating (names_set c)) (Some (row_of now.rowid kept.items)) (Some (row_of was.rowid was.values.items)) named kind refl refl;
-      rows_are = rows_are ∙ ap (λ (vs : List Value). both_rows (Some (row_of now.rowid vs)) (Some (row_of was.rowid was.values.items))) is.values_are;
+      new_is = ap (λ (vs : List Value). some_seen (row_of now.rowid vs)) (sym is.values_are);
+      old_is = refl;
     }
       where
         known : finished c (item.Update was.rowid) f db ≡ (put_at kept.items table_now now.rowid then with_event (update_event was.values.items kept.items table_now now.rowid))
         known = same_is ∙ ap (λ (a : Answer ℤ). a then λ id. put_at kept.items table_now id then with_event (update_event was.values.items kept.items table_now id)) is.rowid_is
 
 -- what the call that sets the row says
-abbrev pub Sets : PageMap → ℕ → Table → ℤ → List Value → (Listed → Database → Name → database.Table → Type 0) → Type 0
-Sets old size table rowid given So =
-    (l : Listed) (db : Database) (name : Name) (t : database.Table) (before : List Value) → StoresTable old size l db name table t → row t rowid ≡ Some before → AreStoredBy t given → So l db name t
+abbrev pub Sets : PageMap → ℕ → Table → stored_row.TableRow → List Value → (Listed → Database → Name → database.Table → Type 0) → Type 0
+Sets old size table was given So =
+    (l : Listed) (db : Database) (name : Name) (t : database.Table) → StoresTable old size l db name table t → row t was.rowid ≡ Some was.values.items → AreStoredBy t given → So l db name t
 
 -- the item of a row that is updated
 updated_at : (l : Listed) (c : Change) (table : Table) (act : Act) (id : ℤ) (was : stored_row.TableRow) (rowid : Value) (kept : Values) (f : Firing) → IsBetween l c table act (item.Update id) (begin.Update was rowid kept) f
     → IsBetween l c table act (item.Update was.rowid) (begin.Update was rowid kept) f
 updated_at l c table act id was rowid kept f between = record { at = between.at; for = (refl, between.for.1); row = between.row }
 
-module _ (finds : FindsListed) (old : PageMap) (size : ℕ) (l : Listed) (c : Change) (db : Database) (f : Firing) (table : Table) (act : Act) (was : stored_row.TableRow) (rowid : Value) (kept : Values) (held : Stores old size l db) (tabled : IsTableAct l c table act) where
+module _ (finds : FindsListed) (old : PageMap) (size : ℕ) (l : Listed) (c : Change) (db : Database) (f : Firing) (table : Table) (act : Act) (was : stored_row.TableRow) (rowid : Value) (kept : Values) (held : Stores old size l db) (tabled : IsTableAct l c table act)
+    (alone : Bool) (untouched : alone ≡ true → IsUntouched db (aim_of c).target (begin.Update was rowid kept)) where
   abbrev here_is : IsHere c table db
   here_is = here finds old size l db c table held tabled.named
 
   abbrev stands : StoresTable old size l db (aim_of c).target table (with_rows table here_is.rows)
   stands = stores_table old size l db c table held tabled.named here_is
 
-  pub update_changed : (i : TableItem) (fault : Fault) → IsItemOf c table act i → IsBetween l c table act i (begin.Update was rowid kept) f → Expects old size table (λ l db name t. NotSame was fault t)
+  still_there : alone ≡ true → row (with_rows table here_is.rows) was.rowid ≡ Some was.values.items
+  still_there is = untouched is (with_rows table here_is.rows) was here_is.is refl
+
+  pub update_changed : (i : TableItem) (fault : Fault) → IsItemOf c table act i → IsBetween l c table act i (begin.Update was rowid kept) f → Expects old size table alone was (λ l db name t. NotSame was fault t)
       → IsRunRefusal l (finished c i f db) fault
   update_changed (item.Insert g) fault kind between expects = absurd between.for
   update_changed (item.Delete id) fault kind between expects = absurd between.for
   update_changed (item.Update id) fault kind between expects =
       subst (λ (n : ℤ). IsRunRefusal l (finished c (item.Update n) f db) fault) between.for.0
-      (update_not_same l c db f table act was rowid kept here_is tabled.named kind (updated_at l c table act id was rowid kept f between) fault (expects l db (aim_of c).target (with_rows table here_is.rows) stands))
+      (update_not_same l c db f table act was rowid kept here_is tabled.named kind (updated_at l c table act id was rowid kept f between) fault (expects l db (aim_of c).target (with_rows table here_is.rows) stands still_there))
 
   pub update_failed : (i : TableItem) (given : List Value) (fault : Fault) → kept.items ≡ given → IsItemOf c table act i → IsBetween l c table act i (begin.Update was rowid kept) f
-      → Expects old size table (λ l db name t. same_row (row t was.rowid) was.values.items ≡ true) → Sets old size table was.rowid given (λ l db name t. IsRefusedAs (values_put db name t was.rowid given) table fault)
+      → Expects old size table alone was (λ l db name t. same_row (row t was.rowid) was.values.items ≡ true) → Sets old size table was given (λ l db name t. IsRefusedAs (values_put db name t was.rowid given) table fault)
       → IsRunRefusal l (finished c i f db) fault
   update_failed (item.Insert g) given fault same_given kind between expects says = absurd between.for
   update_failed (item.Delete id) given fault same_given kind between expects says = absurd between.for
   update_failed (item.Update id) given fault same_given kind between expects says =
       let t = with_rows table here_is.rows in
-      let same = expects l db (aim_of c).target t stands in
-      let there = is_there (row t was.rowid) was.values.items same in
+      let same = expects l db (aim_of c).target t stands still_there in
       subst (λ (n : ℤ). IsRunRefusal l (finished c (item.Update n) f db) fault) between.for.0
       (update_fails l c db f table act was rowid kept here_is tabled.named kind (updated_at l c table act id was rowid kept f between) same fault
       (subst (λ (vs : List Value). IsRefusedAs (values_put db (aim_of c).target t was.rowid vs) table fault) (sym same_given)
-      (says l db (aim_of c).target t there.0 stands there.1 (subst (AreStoredBy t) same_given (record { full = between.for.1.full; stores = between.for.1.stores })))))
+      (says l db (aim_of c).target t stands (as_it_was (row t was.rowid) was.values.items same) (subst (AreStoredBy t) same_given (record { full = between.for.1.full; stores = between.for.1.stores })))))
 
-  pub update_done : (new : PageMap) (i : TableItem) (given : List Value) (now : stored_row.TableRow) (rows : List (List Row)) → kept.items ≡ given → IsItemOf c table act i → IsBetween l c table act i (begin.Update was rowid kept) f
-      → Expects old size table (λ l db name t. same_row (row t was.rowid) was.values.items ≡ true) → Sets old size table was.rowid given (λ l db name t. IsRowSet new size l db name t was.rowid given (pair_of now))
-      → rows ≡ both_rows (Some (row_of now.rowid now.values.items)) (Some (row_of was.rowid was.values.items)) → IsFinished new size l c (finished c i f db) rows
-  update_done new (item.Insert g) given now rows same_given kind between expects says rows_are = absurd between.for
-  update_done new (item.Delete id) given now rows same_given kind between expects says rows_are = absurd between.for
-  update_done new (item.Update id) given now rows same_given kind between expects says rows_are =
+  pub update_done : (new : PageMap) (i : TableItem) (given : List Value) (now : stored_row.TableRow) → kept.items ≡ given → IsItemOf c table act i → IsBetween l c table act i (begin.Update was rowid kept) f
+      → Expects old size table alone was (λ l db name t. same_row (row t was.rowid) was.values.items ≡ true) → Sets old size table was given (λ l db name t. IsRowSet new size l db name t was.rowid given (pair_of now))
+      → IsFinished new size l c (finished c i f db) (begin.Update was rowid kept) (Some now)
+  update_done new (item.Insert g) given now same_given kind between expects says = absurd between.for
+  update_done new (item.Delete id) given now same_given kind between expects says = absurd between.for
+  update_done new (item.Update id) given now same_given kind between expects says =
       let t = with_rows table here_is.rows in
-      let same = expects l db (aim_of c).target t stands in
-      let there = is_there (row t was.rowid) was.values.items same in
-      subst (λ (n : ℤ). IsFinished new size l c (finished c (item.Update n) f db) rows) between.for.0
-      (updated l c db f table act was rowid kept here_is tabled.named kind (updated_at l c table act id was rowid kept f between) same new size now rows
+      let same = expects l db (aim_of c).target t stands still_there in
+      subst (λ (n : ℤ). IsFinished new size l c (finished c (item.Update n) f db) (begin.Update was rowid kept) (Some now)) between.for.0
+      (updated l c db f table act was rowid kept here_is tabled.named kind (updated_at l c table act id was rowid kept f between) same new size now
       (subst (λ (vs : List Value). IsRowSet new size l db (aim_of c).target t was.rowid vs (pair_of now)) (sym same_given)
-      (says l db (aim_of c).target t there.0 stands there.1 (subst (AreStoredBy t) same_given (record { full = between.for.1.full; stores = between.for.1.stores }))))
-      rows_are)
+      (says l db (aim_of c).target t stands (as_it_was (row t was.rowid) was.values.items same) (subst (AreStoredBy t) same_given (record { full = between.for.1.full; stores = between.for.1.stores })))))
 
 -- ---- DELETE
 
-module _ (finds : FindsListed) (old : PageMap) (size : ℕ) (l : Listed) (c : Change) (db : Database) (f : Firing) (table : Table) (act : Act) (was : stored_row.TableRow) (held : Stores old size l db) (tabled : IsTableAct l c table act) where
+module _ (finds : FindsListed) (old : PageMap) (size : ℕ) (l : Listed) (c : Change) (db : Database) (f : Firing) (table : Table) (act : Act) (was : stored_row.TableRow) (held : Stores old size l db) (tabled : IsTableAct l c table act)
+    (alone : Bool) (untouched : alone ≡ true → IsUntouched db (aim_of c).target (begin.Delete was)) where
   abbrev here_too : IsHere c table db
   here_too = here finds old size l db c table held tabled.named
 
@@ -370,6 +376,9 @@ module _ (finds : FindsListed) (old : PageMap) (size : ℕ) (l : Listed) (c : Ch
   abbrev stands_too : StoresTable old size l db (aim_of c).target table table_then
   stands_too = stores_table old size l db c table held tabled.named here_too
 
+  there_still : alone ≡ true → row table_then was.rowid ≡ Some was.values.items
+  there_still is = untouched is table_then was here_too.is refl
+
   abbrev taken : List Value → database.Table → Made
   taken vs t = Ok (with_object db (aim_of c).target (ATable (without_row was.rowid t)), firing (aim_of c).target Deleting t None (Some (row_of was.rowid vs)))
 
@@ -378,41 +387,33 @@ module _ (finds : FindsListed) (old : PageMap) (size : ℕ) (l : Listed) (c : Ch
   deleted_is id same at =
       ap (λ (n : ℤ). finished c (item.Delete n) f db) (sym same) ∙ ap (λ (o : Option Row). unchanged db (aim_of c).target was.rowid (values_in o) then taken (values_in o)) at
 
-  pub delete_changed : (i : TableItem) (fault : Fault) → IsBetween l c table act i (begin.Delete was) f → Expects old size table (λ l db name t. NotSame was fault t) → IsRunRefusal l (finished c i f db) fault
+  pub delete_changed : (i : TableItem) (fault : Fault) → IsBetween l c table act i (begin.Delete was) f → Expects old size table alone was (λ l db name t. NotSame was fault t) → IsRunRefusal l (finished c i f db) fault
   delete_changed (item.Insert g) fault between expects = absurd between.for
   delete_changed (item.Update id) fault between expects = absurd between.for
   delete_changed (item.Delete id) fault between expects =
-      not_same l c db table here_too was (taken was.values.items) (finished c (item.Delete id) f db) fault (deleted_is id between.for between.at.1) (expects l db (aim_of c).target table_then stands_too)
+      not_same l c db table here_too was (taken was.values.items) (finished c (item.Delete id) f db) fault (deleted_is id between.for between.at.1) (expects l db (aim_of c).target table_then stands_too there_still)
 
-  pub delete_done : (new : PageMap) (i : TableItem) (rows : List (List Row)) → IsItemOf c table act i → IsBetween l c table act i (begin.Delete was) f
-      → Expects old size table (λ l db name t. same_row (row t was.rowid) was.values.items ≡ true)
-      → ((l : Listed) (db : Database) (name : Name) (t : database.Table) (before : List Value) → StoresTable old size l db name table t → row t was.rowid ≡ Some before → Stores new size l (with_object db name (ATable (without_row was.rowid t))))
-      → rows ≡ both_rows None (Some (row_of was.rowid was.values.items)) → IsFinished new size l c (finished c i f db) rows
-  delete_done new (item.Insert g) rows kind between expects says rows_are = absurd between.for
-  delete_done new (item.Update id) rows kind between expects says rows_are = absurd between.for
-  delete_done new (item.Delete id) rows kind between expects says rows_are =
-      let same = expects l db (aim_of c).target table_then stands_too in
-      let there = is_there (row table_then was.rowid) was.values.items same in
+  pub delete_done : (new : PageMap) (i : TableItem) → IsItemOf c table act i → IsBetween l c table act i (begin.Delete was) f
+      → Expects old size table alone was (λ l db name t. same_row (row t was.rowid) was.values.items ≡ true)
+      → ((l : Listed) (db : Database) (name : Name) (t : database.Table) → StoresTable old size l db name table t → row t was.rowid ≡ Some was.values.items → Stores new size l (with_object db name (ATable (without_row was.rowid t))))
+      → IsFinished new size l c (finished c i f db) (begin.Delete was) None
+  delete_done new (item.Insert g) kind between expects says = absurd between.for
+  delete_done new (item.Update id) kind between expects says = absurd between.for
+  delete_done new (item.Delete id) kind between expects says =
+      let same = expects l db (aim_of c).target table_then stands_too there_still in
       record {
         made = with_object db (aim_of c).target (ATable (without_row was.rowid table_then));
         f = firing (aim_of c).target Deleting table_then None (Some (row_of was.rowid was.values.items));
         is = deleted_is id between.for between.at.1 ∙ ap (changed_then l c db table here_too was (taken was.values.items)) (unchanged_is l c db table here_too was true same);
-        stored = says l db (aim_of c).target table_then there.0 stands_too there.1;
+        stored = says l db (aim_of c).target table_then stands_too (as_it_was (row table_then was.rowid) was.values.items same);
         row = row_in l c table here_too.rows Deleting None (Some (row_of was.rowid was.values.items)) tabled.named kind refl refl;
-        rows_are = rows_are;
+        new_is = refl;
+        old_is = refl;
       }
 
   -- the call that takes the row out fails
-  pub delete_failed : (i : TableItem) (fault : Fault) → IsBetween l c table act i (begin.Delete was) f → Expects old size table (λ l db name t. same_row (row t was.rowid) was.values.items ≡ true)
-      → ((l : Listed) (db : Database) (name : Name) (t : database.Table) (before : List Value) → StoresTable old size l db name table t → row t was.rowid ≡ Some before → IsOutsideOrFull fault) → IsRunRefusal l (finished c i f db) fault
+  pub delete_failed : (i : TableItem) (fault : Fault) → IsBetween l c table act i (begin.Delete was) f → Expects old size table alone was (λ l db name t. same_row (row t was.rowid) was.values.items ≡ true)
+      → ((l : Listed) (db : Database) (name : Name) (t : database.Table) → StoresTable old size l db name table t → row t was.rowid ≡ Some was.values.items → IsOutsideOrFull fault) → IsRunRefusal l (finished c i f db) fault
   delete_failed i fault between expects says =
-      let same = expects l db (aim_of c).target table_then stands_too in
-      let there = is_there (row table_then was.rowid) was.values.items same in
-      inl (says l db (aim_of c).target table_then there.0 stands_too there.1)
-
--- ---- what is answered
-
-pub both_done : (l : Listed) (a : Made) (P : List (List Row) → Type 0) (pair : List (List Row)) (result : Result (Vec (List Row)) Fault) → IsOrMemory (λ rows. rows.items ≡ pair) result → ((rows : List (List Row)) → rows ≡ pair → P rows)
-    → MatchResult result (λ rows. P rows.items) (IsRunRefusal l a)
-both_done l a P pair (Ok rows) is go = go rows.items is
-both_done l a P pair (Err f) memory go = inl (inl (inl memory))
+      let same = expects l db (aim_of c).target table_then stands_too there_still in
+      inl (says l db (aim_of c).target table_then stands_too (as_it_was (row table_then was.rowid) was.values.items same))

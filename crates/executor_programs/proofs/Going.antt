@@ -1,5 +1,5 @@
 -- What becomes of the statements, triggers and rows that a loop still has before it.
-use Rattle.std.proofs.Common.{refl, ℕ, List, [], ◌∷◌, Ok, Err}
+use Rattle.std.proofs.Common.{◌≡◌, refl, ℕ, List, [], ◌∷◌, Option, Some, None, Ok, Err}
 use Rattle.std.specs.Prelude.{Result, ⊤}
 use Rattle.std.specs.List.{AllByRecursion}
 use Rattle.std.specs.declared.alloc.Global.{Global}
@@ -12,6 +12,7 @@ use Rattle.pages.specs.Map.{PageMap}
 use Rattle.catalog.specs.Database.{Database, Name}
 use Rattle.catalog.specs.Listed.{Listed, shared}
 use Rattle.catalog.specs.declared.tables.Table.{Table}
+use Rattle.catalog.specs.declared.tables.TableRow.{TableRow}
 use Rattle.catalog.specs.declared.tables.Trigger.{Trigger}
 use Rattle.row_change.specs.Changes.{Outer}
 use Rattle.trigger.specs.Binding.{aim_of}
@@ -20,8 +21,9 @@ use Rattle.trigger.specs.Triggers.{fired, run_trigger}
 use Rattle.trigger_bind.specs.Choosing.{named_definition}
 use Rattle.trigger_bind.specs.Knowing.{KnowsProgram, KnowsStatement}
 use Rattle.executor_programs.specs.Acts.{IsItemOf, IsSeenOf, IsTableAct, IsViewAct}
+use Rattle.executor_programs.specs.Begun.{IsRowOnPages}
 use Rattle.executor_programs.specs.Outer.{Shows}
-use Rattle.executor_programs.specs.Rows.{columns_listed_of, row_changed, seen_changed}
+use Rattle.executor_programs.specs.Rows.{IsInTable, columns_listed_of, row_changed, seen_changed}
 use Rattle.executor_programs.specs.Running.{KnowsBody, KnowsEach, KnowsRows, OnEach, Runs, definitions}
 use Rattle.executor_programs.specs.declared.acts.Act.{Act}
 use Rattle.executor_programs.specs.declared.acts.TableItem.{TableItem}
@@ -35,6 +37,13 @@ first_each P l x xs each rows_at db is = ((each rows_at db is).0, tt)
 
 rest_each : {A : Type 0} (P : Database → A → Type 0) (l : Listed) (x : A) (xs : List A) → OnEach l (λ db. AllByRecursion (P db) (x ∷ xs)) → OnEach l (λ db. AllByRecursion (P db) xs)
 rest_each P l x xs each rows_at db is = (each rows_at db is).1
+
+-- where no row is known
+pub none_there : (db : Database) (name : Name) → IsInTable db name None
+none_there db name t r at some = absurd (none r some)
+  where
+    none : (r : TableRow) → (let l : Option TableRow = None in l) ≡ Some r → ⊥
+    none r e = absurd cc
 
 -- one after another
 module _ {A : Type 0} (size : ℕ) (l : Listed) (effect : Database → A → Answer Database) where
@@ -71,12 +80,15 @@ module _ (room : ℕ) (l : Listed) (names : List Name) (o : OuterRows) where
 
   -- ---- rows of a table
 
-  abbrev pub RowsChange : Table → Act → PageMap → PageMap → ℕ → List TableItem → Result ⊤ Fault → Type 0
-  RowsChange table act old new size left result = (seen : Outer) (c : Change) → Shows o seen → IsTableAct l c table act → AllByRecursion (IsItemOf c table act) left → KnowsRows l c
-      → Runs old new size l (λ db. fold_answer (λ db i. row_changed (fired (programs room) names) seen c act i db) db left) result
+  -- what is known of the first, and the rows
+  abbrev pub RowsChange : Table → Act → PageMap → PageMap → ℕ → Option TableRow × List TableItem → Result ⊤ Fault → Type 0
+  RowsChange table act old new size left result = (seen : Outer) (c : Change) → Shows o seen → IsTableAct l c table act → AllByRecursion (IsItemOf c table act) left.1 → KnowsRows l c
+      → IsRowOnPages old size l (aim_of c).target left.0
+      → Runs old new size l (λ db. fold_answer (λ db i. row_changed (fired (programs room) names) seen c act i db) db left.1) result
 
-  abbrev pub RowChanges : Table → Act → PageMap → PageMap → ℕ → TableItem → Result ⊤ Fault → Type 0
-  RowChanges table act old new size i result = (seen : Outer) (c : Change) → Shows o seen → IsTableAct l c table act → IsItemOf c table act i → KnowsRows l c
+  abbrev pub RowChanges : Table → Act → PageMap → PageMap → ℕ → Option TableRow → TableItem → Result ⊤ Fault → Type 0
+  RowChanges table act old new size known i result = (seen : Outer) (c : Change) → Shows o seen → IsTableAct l c table act → IsItemOf c table act i → KnowsRows l c
+      → IsRowOnPages old size l (aim_of c).target known
       → Runs old new size l (λ db. row_changed (fired (programs room) names) seen c act i db) result
 
   -- ---- rows of a view
@@ -110,14 +122,15 @@ module _ (room : ℕ) (l : Listed) (names : List Name) (o : OuterRows) where
         stop_run size l (run_trigger (programs room) names seen) old mid new (named_definition t.value) (definitions rest) f
         (one seen shows (first_each (λ db u. KnowsProgram db seen u.definition) l t.value (shared rest) knows))
 
-    pub rows_go : (table : Table) (act : Act) (i : TableItem) (rest : List TableItem) (result : Result ⊤ Fault) → RowChanges table act old mid size i (Ok tt) → RowsChange table act mid new size rest result
-        → RowsChange table act old new size (i ∷ rest) result
-    rows_go table act i rest result one others seen c shows is each knows =
-        more_run size l (λ db j. row_changed (fired (programs room) names) seen c act j db) old mid new i rest result (one seen c shows is each.0 knows) (others seen c shows is each.1 knows)
+    pub rows_go : (table : Table) (act : Act) (known : Option TableRow) (i : TableItem) (rest : List TableItem) (result : Result ⊤ Fault) → RowChanges table act old mid size known i (Ok tt) → RowsChange table act mid new size (None, rest) result
+        → RowsChange table act old new size (known, i ∷ rest) result
+    rows_go table act known i rest result one others seen c shows is each knows there =
+        more_run size l (λ db j. row_changed (fired (programs room) names) seen c act j db) old mid new i rest result (one seen c shows is each.0 knows there)
+        (others seen c shows is each.1 knows (λ db held. none_there db (aim_of c).target))
 
-    pub rows_stop : (table : Table) (act : Act) (i : TableItem) (rest : List TableItem) (f : Fault) → RowChanges table act old mid size i (Err f) → RowsChange table act old new size (i ∷ rest) (Err f)
-    rows_stop table act i rest f one seen c shows is each knows =
-        stop_run size l (λ db j. row_changed (fired (programs room) names) seen c act j db) old mid new i rest f (one seen c shows is each.0 knows)
+    pub rows_stop : (table : Table) (act : Act) (known : Option TableRow) (i : TableItem) (rest : List TableItem) (f : Fault) → RowChanges table act old mid size known i (Err f) → RowsChange table act old new size (known, i ∷ rest) (Err f)
+    rows_stop table act known i rest f one seen c shows is each knows there =
+        stop_run size l (λ db j. row_changed (fired (programs room) names) seen c act j db) old mid new i rest f (one seen c shows is each.0 knows there)
 
     pub seen_go : (width : ℕ) (act : Act) (i : ViewItem) (rest : List ViewItem) (result : Result ⊤ Fault) → OneSeenChanges width act old mid size i (Ok tt) → SeenChange width act mid new size rest result
         → SeenChange width act old new size (i ∷ rest) result
@@ -136,8 +149,8 @@ module _ (room : ℕ) (l : Listed) (names : List Name) (o : OuterRows) where
     pub fires_none : Fires now now size [] (Ok tt)
     fires_none seen shows knows = none_run size l (run_trigger (programs room) names seen) now
 
-    pub rows_done : (table : Table) (act : Act) → RowsChange table act now now size [] (Ok tt)
-    rows_done table act seen c shows is each knows = none_run size l (λ db i. row_changed (fired (programs room) names) seen c act i db) now
+    pub rows_done : (table : Table) (act : Act) (known : Option TableRow) → RowsChange table act now now size (known, []) (Ok tt)
+    rows_done table act known seen c shows is each knows there = none_run size l (λ db i. row_changed (fired (programs room) names) seen c act i db) now
 
     pub seen_done : (width : ℕ) (act : Act) → SeenChange width act now now size [] (Ok tt)
     seen_done width act seen c shows is each knows =

@@ -7,6 +7,7 @@ pub mod Changing
 pub mod ChosenRows
 pub mod Finishing
 pub mod Firing
+pub mod FirstRows
 pub mod Folding
 pub mod Going
 pub mod Holding
@@ -17,11 +18,13 @@ pub mod QuietTerms
 pub mod Quietly
 pub mod Reading
 pub mod RowsOfViews
+pub mod SameRows
 pub mod SeenRows
 pub mod SetBeside
 pub mod Setting
 pub mod Settled
 pub mod SoughtRows
+pub mod Untouched
 pub mod WorkOf
 pub mod Works
 pub mod WorksOfViews

@@ -1,5 +1,5 @@
 -- A row of a table between the triggers before its change and those after it (SQL As Understood By SQLite, "CREATE TRIGGER").
-use Rattle.std.specs.Prelude.{◌≡◌, ◌⊎◌, ⊤, true, false, ℕ, ℤ, List, [], ◌∷◌, map, length, unwrap_or, slice_get, Option, Some, None, Ok, Err, Result, MatchResult}
+use Rattle.std.specs.Prelude.{◌≡◌, ◌⊎◌, ⊤, Bool, true, false, ℕ, ℤ, List, [], ◌∷◌, map, length, option_map, unwrap_or, slice_get, Option, Some, None, Ok, Err, Result, MatchResult}
 use Rattle.std.specs.Global.{Vec}
 use Rattle.sqlval.specs.Faults.{IsOutside}
 use Rattle.sqlval.specs.Refusals.{Answer, ◌then◌, RowChangedBefore, refusal_of}
@@ -20,19 +20,22 @@ use Rattle.row_scan.specs.Rows.{TableRow}
 use Rattle.row_change.specs.Binding.{row_with}
 use Rattle.row_change.specs.Changes.{Outer}
 use Rattle.row_change.specs.Constraints.{row_of, table_of, with_affinity}
+use Rattle.row_change.specs.NewRows.{row_of as pair_of}
 use Rattle.row_change.specs.RowChanges.{Firing, same_row}
 use Rattle.trigger.specs.Binding.{aim_of}
 use Rattle.db_pages.specs.Stored.{Stores}
 use Rattle.executor.specs.Rows.{AreStoredBy, StoresTable}
 use Rattle.executor_programs.specs.Acts.{IsItemOf, IsRowIn, IsTableAct}
 use Rattle.executor_programs.specs.Outer.{Shows, only}
-use Rattle.executor_programs.specs.Rows.{begun, finished, rows_seen}
+use Rattle.executor_programs.specs.Rows.{IsInTable, begun, finished, rows_seen}
 use Rattle.executor_programs.specs.Running.{IsRunRefusal}
 use Rattle.executor_programs.specs.declared.acts.Act.{Act}
 use Rattle.executor_programs.specs.declared.acts.TableItem.{TableItem}
 use Rattle.executor_programs.specs.declared.acts.TableItem.TheVariants as item
 use Rattle.executor_programs.specs.declared.acts.ViewItem.{ViewItem}
 use Rattle.executor_programs.specs.declared.outer.OuterRows.{OuterRows}
+use Rattle.executor_programs.specs.declared.rows.AtRow.{AtRow}
+use Rattle.executor_programs.specs.declared.rows.AtRow.TheVariants as at_row
 use Rattle.executor_programs.specs.declared.rows.Begun.{Begun}
 use Rattle.executor_programs.specs.declared.rows.Begun.TheVariants as begin
 
@@ -58,6 +61,34 @@ IsBegunAt (begin.Insert rowid values) f = (f.new ≡ Some (record { rowid = rowi
 IsBegunAt (begin.Update old rowid values) f = (f.new ≡ Some (record { rowid = rowid; values = values.items })) × (f.old ≡ Some (row_of old.rowid old.values.items))
 IsBegunAt (begin.Delete old) f = (f.new ≡ None) × (f.old ≡ Some (row_of old.rowid old.values.items))
 
+-- the row as it was; none of an INSERT
+abbrev pub old_in : Begun → Option stored.TableRow
+old_in (begin.Insert rowid values) = None
+old_in (begin.Update old rowid values) = Some old
+old_in (begin.Delete old) = Some old
+
+-- a row of a table as NEW or OLD
+abbrev pub as_seen : stored.TableRow → Row
+as_seen r = row_of r.rowid r.values.items
+
+-- NEW and OLD of the event are the row's before its change, or after it
+abbrev pub IsSeenAt : AtRow → Firing → Type 0
+IsSeenAt (at_row.Before b) f = IsBegunAt b.now f
+IsSeenAt (at_row.After b now) f = (f.new ≡ option_map as_seen now) × (f.old ≡ option_map as_seen (old_in b.now))
+
+-- the row that is changed is in the table as it was
+abbrev pub IsUntouched : Database → Name → Begun → Type 0
+IsUntouched db name b = IsInTable db name (old_in b)
+
+-- the row, if there is one, is in the table of this name of each database that the pages store
+abbrev pub IsRowOnPages : PageMap → ℕ → Listed → Name → Option stored.TableRow → Type 0
+IsRowOnPages pages size l name o = (db : Database) → Stores pages size l db → IsInTable db name o
+
+-- This is the row of a rowid, if there is one, of a table that has the known row; or memory was short, or a disk's call failed.
+abbrev pub FindsNow : PageMap → ℕ → Table → ℤ → Option stored.TableRow → Result (Option stored.TableRow) Fault → Type 0
+FindsNow pages size table rowid known result = (l : Listed) (db : Database) (name : Name) (t : database.Table) → StoresTable pages size l db name table t → IsInTable db name known
+    → MatchResult result (λ found. option_map pair_of found ≡ option_map (λ values. (rowid, values)) (row t rowid)) IsOutside
+
 -- what is to be done with it is as the item says; the values are as the columns store them
 abbrev pub IsBegunFor : Table → Act → TableItem → Begun → Type 0
 IsBegunFor table act (item.Insert given) (begin.Insert rowid values) = with_affinity (map as_column table.columns) (row_with table act.places.items given.items) ≡ Ok values.items
@@ -80,10 +111,10 @@ IsBegunAs l c table act i answer (Some b) = (f : Firing) × (answer ≡ Ok (Some
 abbrev pub BeginsAs : Listed → Change → Table → Act → TableItem → Answer (Option Firing) → Result (Option Begun) Fault → Type 0
 BeginsAs l c table act i answer result = MatchResult result (IsBegunAs l c table act i answer) (λ f. IsOutside f ⊎ (answer ≡ Err (refusal_of f)))
 
--- A row's change begins; or it is refused as its values are, for want of memory, or by a disk.
-abbrev pub Begins : PageMap → ℕ → Listed → OuterRows → Change → Table → Act → TableItem → Result (Option Begun) Fault → Type 0
-Begins pages size l o c table act i result = (db : Database) (seen : Outer) → Stores pages size l db → Shows o seen → IsTableAct l c table act → IsItemOf c table act i
-    → BeginsAs l c table act i (begun seen c act i db) result
+-- A row's change begins, where the row that is known is in the table; or it is refused as its values are, for want of memory, or by a disk.
+abbrev pub Begins : PageMap → ℕ → Listed → OuterRows → Change → Table → Act → TableItem → Option stored.TableRow → Result (Option Begun) Fault → Type 0
+Begins pages size l o c table act i known result = (db : Database) (seen : Outer) → Stores pages size l db → Shows o seen → IsTableAct l c table act → IsItemOf c table act i
+    → IsInTable db (aim_of c).target known → BeginsAs l c table act i (begun seen c act i db) result
 
 -- An UPDATE of this row, which is there, begins.
 abbrev pub BeginsSet : OuterRows → Table → Act → stored.TableRow → Result (Option Begun) Fault → Type 0
@@ -92,24 +123,26 @@ BeginsSet o table act old result = (l : Listed) (c : Change) (db : Database) (se
     → row (with_rows table rows) old.rowid ≡ Some old.values.items → length old.values.items ≡ length table.columns
     → BeginsAs l c table act (item.Update old.rowid) (begun seen c act (item.Update old.rowid) db) result
 
--- the row is as it was
-abbrev pub ExpectsUnchanged : PageMap → ℕ → Table → TableRow → Result ⊤ Fault → Type 0
-ExpectsUnchanged pages size table old result = (l : Listed) (db : Database) (name : Name) (t : database.Table) → StoresTable pages size l db name table t
-    → MatchResult result (λ done. same_row (row t old.0) old.1 ≡ true) (λ f. IsOutside f ⊎ ((same_row (row t old.0) old.1 ≡ false) × (refusal_of f ≡ RowChangedBefore)))
+-- the row is as it was, which is known where it is alone
+abbrev pub ExpectsUnchanged : PageMap → ℕ → Table → Bool → TableRow → Result ⊤ Fault → Type 0
+ExpectsUnchanged pages size table alone old result = (l : Listed) (db : Database) (name : Name) (t : database.Table) → StoresTable pages size l db name table t
+    → (alone ≡ true → row t old.0 ≡ Some old.1) → MatchResult result (λ done. same_row (row t old.0) old.1 ≡ true) (λ f. IsOutside f ⊎ ((same_row (row t old.0) old.1 ≡ false) × (refusal_of f ≡ RowChangedBefore)))
 
--- The row's change is made, and these are NEW and OLD at the event after it.
-pub record IsFinished (new : PageMap) (size : ℕ) (l : Listed) (c : Change) (answer : Answer (Database × Firing)) (rows : List (List Row)) : Type 0 where
+-- The row's change is made, and this is the row as it is then, if it is there: NEW and OLD at the event after it are these.
+pub record IsFinished (new : PageMap) (size : ℕ) (l : Listed) (c : Change) (answer : Answer (Database × Firing)) (b : Begun) (now : Option stored.TableRow) : Type 0 where
   pub made : Database
   pub f : Firing
   pub is : answer ≡ Ok (made, f)
   pub stored : Stores new size l made
   pub row : IsRowIn l (aim_of c) f
-  pub rows_are : rows ≡ both_rows f.new f.old
+  pub new_is : f.new ≡ option_map as_seen now
+  pub old_is : f.old ≡ option_map as_seen (old_in b)
 
--- A row's change is made after its triggers ran; or it is refused.
-abbrev pub Finishes : PageMap → PageMap → ℕ → Listed → Change → Table → Act → TableItem → Begun → Result (Vec (List Row)) Fault → Type 0
-Finishes old new size l c table act i b result = (db : Database) (f : Firing) → Stores old size l db → IsTableAct l c table act → IsItemOf c table act i → IsBetween l c table act i b f
-    → MatchResult result (λ rows. IsFinished new size l c (finished c i f db) rows.items) (IsRunRefusal l (finished c i f db))
+-- A row's change is made after its triggers ran, or with none before it, so that the row is as it was; or it is refused.
+abbrev pub Finishes : PageMap → PageMap → ℕ → Listed → Change → Table → Act → TableItem → Begun → Bool → Result (Option stored.TableRow) Fault → Type 0
+Finishes old new size l c table act i b alone result = (db : Database) (f : Firing) → Stores old size l db → IsTableAct l c table act → IsItemOf c table act i → IsBetween l c table act i b f
+    → (alone ≡ true → IsUntouched db (aim_of c).target b)
+    → MatchResult result (IsFinished new size l c (finished c i f db) b) (IsRunRefusal l (finished c i f db))
 
 -- the values that an INSERT gives
 abbrev pub given_in : TableItem → List Value
@@ -117,18 +150,18 @@ given_in (item.Insert given) = given.items
 given_in _ = []
 
 -- An INSERT of a row of these values is made, whichever change and row before it these are; or it is refused.
-abbrev pub FinishesInsert : PageMap → PageMap → ℕ → Table → Act → List Value → Result (Vec (List Row)) Fault → Type 0
-FinishesInsert old new size table act given result = (l : Listed) (c : Change) (i : TableItem) (rowid : Value) (values : Values) → given_in i ≡ given
-    → Finishes old new size l c table act i (begin.Insert rowid values) result
+abbrev pub FinishesInsert : PageMap → PageMap → ℕ → Table → Act → List Value → Result (Option stored.TableRow) Fault → Type 0
+FinishesInsert old new size table act given result = (l : Listed) (c : Change) (i : TableItem) (rowid : Value) (values : Values) (alone : Bool) → given_in i ≡ given
+    → Finishes old new size l c table act i (begin.Insert rowid values) alone result
 
 -- So is an UPDATE of a row to these values.
-abbrev pub FinishesUpdate : PageMap → PageMap → ℕ → Table → stored.TableRow → List Value → Result (Vec (List Row)) Fault → Type 0
-FinishesUpdate old new size table row values result = (l : Listed) (c : Change) (act : Act) (i : TableItem) (rowid : Value) (given : Values) → given.items ≡ values
-    → Finishes old new size l c table act i (begin.Update row rowid given) result
+abbrev pub FinishesUpdate : PageMap → PageMap → ℕ → Table → stored.TableRow → List Value → Bool → Result (Option stored.TableRow) Fault → Type 0
+FinishesUpdate old new size table row values alone result = (l : Listed) (c : Change) (act : Act) (i : TableItem) (rowid : Value) (given : Values) → given.items ≡ values
+    → Finishes old new size l c table act i (begin.Update row rowid given) alone result
 
 -- So is a DELETE of a row.
-abbrev pub FinishesDelete : PageMap → PageMap → ℕ → Table → stored.TableRow → Result (Vec (List Row)) Fault → Type 0
-FinishesDelete old new size table row result = (l : Listed) (c : Change) (act : Act) (i : TableItem) → Finishes old new size l c table act i (begin.Delete row) result
+abbrev pub FinishesDelete : PageMap → PageMap → ℕ → Table → stored.TableRow → Bool → Result (Option stored.TableRow) Fault → Type 0
+FinishesDelete old new size table row alone result = (l : Listed) (c : Change) (act : Act) (i : TableItem) → Finishes old new size l c table act i (begin.Delete row) alone result
 
 -- NEW and OLD of a row of a view, each with its row; or they are refused as SET's expressions are
 abbrev pub SeesRows : Outer → List ScopeColumn → Act → ViewItem → Result (Vec (List Row)) Fault → Type 0

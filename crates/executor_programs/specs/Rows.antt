@@ -1,5 +1,5 @@
 -- A row of a change, cut where its triggers stand (SQL As Understood By SQLite, "CREATE TRIGGER").
-use Rattle.std.specs.Prelude.{false, ℕ, ℤ, List, [], ◌∷◌, ◌++◌, map, zip, option_map, Option, Some, None, Ok}
+use Rattle.std.specs.Prelude.{◌≡◌, false, ℕ, ℤ, List, [], ◌∷◌, ◌++◌, map, zip, option_map, Option, Some, None, Ok}
 use Rattle.sqlval.specs.Refusals.{Answer, ◌then◌}
 use Rattle.sqlval.specs.declared.value.Value.{Value}
 use Rattle.sql_syntax.specs.declared.change.Change.{Change}
@@ -7,6 +7,7 @@ use Rattle.sql_syntax.specs.declared.create.TriggerTime.TheVariants.{InsteadOf}
 use Rattle.catalog.specs.Database as database
 use Rattle.catalog.specs.Database.{ATable, Database, Name, row, with_object, without_row}
 use Rattle.catalog.specs.Listed.{Listed}
+use Rattle.catalog.specs.declared.tables.TableRow as listed
 use Rattle.query_names.specs.Checked.{meant}
 use Rattle.query_names.specs.Known.{columns_in}
 use Rattle.query_names.specs.Readings.{env_of, values}
@@ -24,6 +25,10 @@ use Rattle.executor_programs.specs.declared.acts.TableItem.{TableItem}
 use Rattle.executor_programs.specs.declared.acts.TableItem.TheVariants as item
 use Rattle.executor_programs.specs.declared.acts.ViewItem.{ViewItem}
 use Rattle.executor_programs.specs.declared.acts.ViewItem.TheVariants as seen
+
+-- the row, if there is one, is in the table of this name
+abbrev pub IsInTable : Database → Name → Option listed.TableRow → Type 0
+IsInTable db name o = (t : database.Table) (r : listed.TableRow) → table_of db name ≡ Ok t → o ≡ Some r → row t r.rowid ≡ Some r.values.items
 
 -- ---- a row of a table
 

@@ -10,7 +10,7 @@ ghost use Rattle.executor_programs.specs.Making.{MakesBySetting, CarriesOut};
 ghost use Rattle.executor_programs.specs.Writes.{changes_objects, listed_then, written};
 
 use crate::outer::OuterRows;
-use crate::running::{Run, run_change};
+use crate::running::{Run, run_bound};
 use catalog::Catalog;
 use executor::{
     create_index, create_table, create_trigger, create_view, delete_rows, drop_object, insert,
@@ -98,7 +98,7 @@ fn change_quietly<P: WritePages>(
     }
 }
 
-/// Changes rows, with the triggers that this sets off: the names of all their programs are looked up first. (What `know_change` and `run_change`
+/// Changes rows, with the triggers that this sets off: the names of all their programs are looked up first. (What `know_change` and `run_bound`
 /// refuse.)
 fn change_and_run<P: WritePages>(
     alloc: Global,
@@ -113,7 +113,7 @@ fn change_and_run<P: WritePages>(
     ensures causes { Causes result (P.Pages.failures pages.old) (P.Pages.failures pages.new)
         (P.Pages.count pages.new ≡ (P.Pages.limits (P.Pages.below pages.new)).most) }
 {
-    know_change(alloc, catalog, change)?;
+    let bound = know_change(alloc, catalog, change)?;
     let run = Run {
         alloc,
         catalog,
@@ -124,7 +124,7 @@ fn change_and_run<P: WritePages>(
         rows: &[],
     };
     let mut running = Vec::new(alloc);
-    run_change(run, pages, &mut running, outer, change)
+    run_bound(run, pages, &mut running, outer, change, bound)
 }
 
 /// Changes rows, with the triggers that this sets off. (What `change_quietly` and `change_and_run` refuse. Then some pages may have changed.)

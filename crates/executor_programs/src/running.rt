@@ -15,8 +15,12 @@ ghost use Rattle.trigger.specs.Binding.{aim_of, when_faults};
 ghost use Rattle.trigger.specs.Effects as meant;
 ghost use Rattle.trigger.specs.Effects.{change_with, programs};
 ghost use Rattle.trigger.specs.Triggers.{fired, run_trigger, when_holds};
+ghost use Rattle.row_change.specs.RowChanges.{Firing};
+ghost use Rattle.sql_syntax.specs.declared.create.TriggerTime.{TriggerTime};
 ghost use Rattle.trigger_bind.specs.Choosing.{named_definition};
-ghost use Rattle.executor_programs.specs.Acts.{IsItemOf, IsSeenOf, IsTableAct, IsViewAct};
+ghost use Rattle.trigger_bind.specs.Knowing.{IsLookedUpAs};
+ghost use Rattle.executor_programs.specs.Acts.{AreSetOff, IsItemOf, IsRowIn, IsSeenOf, IsTableAct, IsViewAct};
+ghost use Rattle.executor_programs.specs.Begun.{IsSeenAt, IsRowOnPages};
 ghost use Rattle.executor_programs.specs.Outer.{Shows};
 ghost use Rattle.executor_programs.specs.Rows.{columns_listed_of, row_changed, seen_changed};
 ghost use Rattle.executor_programs.specs.Running.{KnowsNames, KnowsBody, KnowsEach, KnowsQuery, KnowsRows, ReadsOnly, Runs, definitions, running_names};
@@ -24,18 +28,19 @@ ghost use Rattle.executor_programs.specs.Running.{KnowsNames, KnowsBody, KnowsEa
 use crate::acts::{Act, TableItem, ViewItem, Work};
 use crate::outer::{OuterRows, is_true_beside};
 use crate::querying::queried_rows;
-use crate::rows::{begin, finish, rows_before};
+use crate::rows::{AtRow, begin, finish, rows_at};
 use crate::seen::rows_seen;
 use crate::work::work_of;
-use catalog::{Catalog, Table, Trigger};
+use catalog::{Catalog, Table, TableRow, Trigger};
 use pages::WritePages;
 use query_bind::{bind_filter, bind_reading_beside};
-use query_names::listed_tables_are_known;
+use query_names::{ScopeSource, listed_tables_are_known};
 use sql_syntax::{Change, Query, TriggerStatement};
 use sqlval::{Fault, R};
 use std::alloc::Global;
 use std::rc::Rc;
 use trigger_bind::programs_are_known;
+use trigger_names::{BoundChange, bind_change};
 
 /// What programs run over: the catalog, and how many more triggers may run within another.
 #[derive(Clone, Copy)]
@@ -134,9 +139,9 @@ fn run_statement<P: WritePages>(
     }
 }
 
-/// A change of rows, beside NEW and OLD.
+/// A change of rows, beside NEW and OLD. (What `bind_change` and `run_bound` refuse.)
 #[cycle(run)]
-pub fn run_change<P: WritePages>(
+fn run_change<P: WritePages>(
     run: Run<'_>,
     pages: &mut P,
     running: &mut Vec<Rc<Trigger>>,
@@ -153,10 +158,35 @@ pub fn run_change<P: WritePages>(
     ensures causes { Causes result (P.Pages.failures pages.old) (P.Pages.failures pages.new)
         (P.Pages.count pages.new ≡ (P.Pages.limits (P.Pages.below pages.new)).most) }
 {
+    let bound = bind_change(run.alloc, run.catalog, outer.scope, change)?;
+    run_bound(run, pages, running, outer, change, bound)
+}
+
+/// A change of rows whose names were looked up, beside NEW and OLD.
+#[cycle(run)]
+pub fn run_bound<P: WritePages>(
+    run: Run<'_>,
+    pages: &mut P,
+    running: &mut Vec<Rc<Trigger>>,
+    outer: OuterRows<'_>,
+    change: &Change,
+    bound: BoundChange,
+) -> R<()>
+    ensures runs { (seen : Outer) → IsTrue (P.Pages.tells (P.Pages.below pages.old)) → Shows outer.entry seen
+        → KnowsNames (listed_in run.entry.catalog.now) seen change.now
+        → IsLookedUpAs (listed_in run.entry.catalog.now) outer.entry.scope.now change.now bound
+        → Runs (P.Pages.map pages.old) (P.Pages.map pages.new) (P.Pages.limits (P.Pages.below pages.old)).page
+        (listed_in run.entry.catalog.now)
+        (λ db. change_with (programs run.entry.room) (running_names running.old.items) seen db change.now) result }
+    ensures running { OnOk result (running.new.items ≡ running.old.items) }
+    ensures kept { P.Pages.below pages.new ≡ P.Pages.below pages.old }
+    ensures causes { Causes result (P.Pages.failures pages.old) (P.Pages.failures pages.new)
+        (P.Pages.count pages.new ≡ (P.Pages.limits (P.Pages.below pages.new)).most) }
+{
     programs_are_known();
-    match work_of(run.alloc, pages, run.catalog, outer, change)? {
-        Work::Table(table, act, items) => {
-            change_rows(run, pages, running, outer, table, &act, &items)
+    match work_of(run.alloc, pages, run.catalog, outer, change, bound)? {
+        Work::Table(table, act, items, first) => {
+            change_rows(run, pages, running, outer, table, &act, &items, first)
         }
         Work::View(width, act, items) => {
             change_seen(run, pages, running, outer, width, &act, &items)
@@ -164,7 +194,7 @@ pub fn run_change<P: WritePages>(
     }
 }
 
-/// Rows of a table, one after another.
+/// Rows of a table, one after another. `first` is the first of them as it is, where that is known.
 #[cycle(run)]
 fn change_rows<P: WritePages>(
     run: Run<'_>,
@@ -174,10 +204,12 @@ fn change_rows<P: WritePages>(
     table: &Table,
     act: &Act,
     items: &[TableItem],
+    first: Option<TableRow>,
 ) -> R<()>
     ensures runs { (seen : Outer) (c : Text) → IsTrue (P.Pages.tells (P.Pages.below pages.old)) → Shows outer.entry seen
         → IsTableAct (listed_in run.entry.catalog.now) c table.now act.now → AllByRecursion (IsItemOf c table.now act.now) items.now
-        → KnowsRows (listed_in run.entry.catalog.now) c
+        → KnowsRows (listed_in run.entry.catalog.now) c → IsRowOnPages (P.Pages.map pages.old)
+        (P.Pages.limits (P.Pages.below pages.old)).page (listed_in run.entry.catalog.now) (aim_of c).target first
         → Runs (P.Pages.map pages.old) (P.Pages.map pages.new) (P.Pages.limits (P.Pages.below pages.old)).page
         (listed_in run.entry.catalog.now)
         (λ db. fold_answer (λ db i. row_changed (fired (programs run.entry.room) (running_names running.old.items)) seen c act.now i db) db items.now) result }
@@ -187,14 +219,16 @@ fn change_rows<P: WritePages>(
         (P.Pages.count pages.new ≡ (P.Pages.limits (P.Pages.below pages.new)).most) }
 {
     let mut left = items;
+    let mut known = first;
     'rows: while let [item, rest @ ..] = left {
-        change_row(run, pages, running, outer, table, act, item)?;
+        change_row(run, pages, running, outer, table, act, item, known)?;
+        known = None;
         left = rest;
     }
     Ok(())
 }
 
-/// A row of a table, with the triggers around it; one that is gone is passed over.
+/// A row of a table, with the triggers around it; one that is gone is passed over. `known` is the row as it is, where that is known.
 #[cycle(run)]
 fn change_row<P: WritePages>(
     run: Run<'_>,
@@ -204,10 +238,12 @@ fn change_row<P: WritePages>(
     table: &Table,
     act: &Act,
     item: &TableItem,
+    known: Option<TableRow>,
 ) -> R<()>
     ensures runs { (seen : Outer) (c : Text) → IsTrue (P.Pages.tells (P.Pages.below pages.old)) → Shows outer.entry seen
         → IsTableAct (listed_in run.entry.catalog.now) c table.now act.now → IsItemOf c table.now act.now item.now
-        → KnowsRows (listed_in run.entry.catalog.now) c
+        → KnowsRows (listed_in run.entry.catalog.now) c → IsRowOnPages (P.Pages.map pages.old)
+        (P.Pages.limits (P.Pages.below pages.old)).page (listed_in run.entry.catalog.now) (aim_of c).target known
         → Runs (P.Pages.map pages.old) (P.Pages.map pages.new) (P.Pages.limits (P.Pages.below pages.old)).page
         (listed_in run.entry.catalog.now)
         (λ db. row_changed (fired (programs run.entry.room) (running_names running.old.items)) seen c act.now item.now db) result }
@@ -216,22 +252,59 @@ fn change_row<P: WritePages>(
     ensures causes { Causes result (P.Pages.failures pages.old) (P.Pages.failures pages.new)
         (P.Pages.count pages.new ≡ (P.Pages.limits (P.Pages.below pages.new)).most) }
 {
-    listed_tables_are_known();
-    let Some(begun) = begin(run.alloc, pages, run.catalog, outer, table, act, item)? else {
+    let Some(begun) = begin(
+        run.alloc,
+        pages,
+        run.catalog,
+        outer,
+        table,
+        act,
+        item,
+        known,
+    )?
+    else {
         return Ok(());
     };
-    let rows = rows_before(run.alloc, &begun)?;
-    let around = OuterRows {
-        scope: &act.scope,
-        rows: &rows,
-    };
-    fire(run, pages, running, around, &act.before)?;
-    let rows = finish(run.alloc, pages, run.catalog, table, act, item, &begun)?;
-    let after = OuterRows {
-        scope: &act.scope,
-        rows: &rows,
-    };
-    fire(run, pages, running, after, &act.after)
+    fire_at(
+        run,
+        pages,
+        running,
+        &act.scope,
+        &act.before,
+        AtRow::Before(&begun),
+    )?;
+    let now = finish(run.alloc, pages, run.catalog, table, act, item, &begun)?;
+    let after = AtRow::After(&begun, now);
+    fire_at(run, pages, running, &act.scope, &act.after, after)
+}
+
+/// The triggers at a row's event, which see it: what they see isn't made where there are none.
+#[cycle(run)]
+fn fire_at<P: WritePages>(
+    run: Run<'_>,
+    pages: &mut P,
+    running: &mut Vec<Rc<Trigger>>,
+    scope: &[ScopeSource],
+    triggers: &[Rc<Trigger>],
+    event: AtRow<'_>,
+) -> R<()>
+    ensures runs { (c : Text) (time : TriggerTime) (f : Firing) → IsTrue (P.Pages.tells (P.Pages.below pages.old))
+        → AreSetOff (listed_in run.entry.catalog.now) c time scope.now triggers.now → IsRowIn (listed_in run.entry.catalog.now) (aim_of c) f
+        → IsSeenAt event.entry f → KnowsRows (listed_in run.entry.catalog.now) c
+        → Runs (P.Pages.map pages.old) (P.Pages.map pages.new) (P.Pages.limits (P.Pages.below pages.old)).page
+        (listed_in run.entry.catalog.now) (fired (programs run.entry.room) (running_names running.old.items) time f) result }
+    ensures running { OnOk result (running.new.items ≡ running.old.items) }
+    ensures kept { P.Pages.below pages.new ≡ P.Pages.below pages.old }
+    ensures causes { Causes result (P.Pages.failures pages.old) (P.Pages.failures pages.new)
+        (P.Pages.count pages.new ≡ (P.Pages.limits (P.Pages.below pages.new)).most) }
+{
+    listed_tables_are_known();
+    if triggers.is_empty() {
+        return Ok(());
+    }
+    let rows = rows_at(run.alloc, event)?;
+    let around = OuterRows { scope, rows: &rows };
+    fire(run, pages, running, around, triggers)
 }
 
 /// Rows of a view, one after another.

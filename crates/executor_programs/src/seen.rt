@@ -42,8 +42,10 @@ fn updated_row(
         (meant.updated seen act.now.sets.items row.now) result }
     ensures not_disk { IfErr result (λ fault. IsNotDiskFault fault) }
 {
-    let values = values_set(alloc, outer, &act.sets, row)?;
-    let new = SourceRow::made(Value::Null, Many::from_vec(values));
+    let own = row_copy(alloc, row)?;
+    let was = row.values(alloc)?.into_vec();
+    let set = values_set(alloc, outer, &act.sets, own, was)?;
+    let new = SourceRow::made(Value::Null, Many::from_vec(set));
     both_rows(alloc, Some(new), Some(row_copy(alloc, row)?))
 }
 

@@ -11,22 +11,11 @@ ghost use Rattle.row_change.specs.Constraints.{set_values};
 ghost use Rattle.executor_programs.specs.Outer.{Shows};
 ghost use Rattle.executor_programs.specs.Rows.{set_beside};
 
-use crate::outer::{OuterRows, env_at, first_places, only_row, row_copy, with_source};
+use crate::outer::{OuterRows, env_at, first_places, only_row, with_source};
 use catalog::Column;
 use query_terms::{SourceRow, Term, evaluate};
 use sqlval::{Fault, Many, R, Value};
 use std::alloc::Global;
-
-/// Copies of values. (`Memory` alone.)
-pub(crate) fn copies_of(alloc: Global, values: &[Value]) -> R<Vec<Value>>
-    ensures { IsOrMemory (λ copies. copies.items ≡ values.now) result }
-{
-    let mut copies = Vec::with_capacity(alloc, values.len())?;
-    'values: for value in values {
-        copies.push(value.copy(alloc)?)?;
-    }
-    Ok(copies)
-}
 
 /// The defaults of columns. (`Memory` alone.)
 pub(crate) fn defaults_of(alloc: Global, columns: &[Column]) -> R<Vec<Value>>
@@ -111,23 +100,25 @@ fn set_terms(
     Ok(given)
 }
 
-/// What SET gives over a row, beside NEW and OLD. (What its expressions refuse, in order.)
+/// What SET gives over a row, whose values are handed over too, beside NEW and OLD. (What its expressions refuse, in order.)
 pub(crate) fn values_set(
     alloc: Global,
     outer: OuterRows<'_>,
     sets: &[(usize, Term)],
-    row: &SourceRow,
+    row: SourceRow,
+    values: Vec<Value>,
 ) -> R<Vec<Value>>
+    requires { values.items ≡ row.values }
     ensures set { (seen : Outer) → Shows outer.entry seen
-        → AnswersBy (λ values. values.items) (set_beside seen sets.now row.now) result }
+        → AnswersBy (λ values. values.items) (set_beside seen sets.now row) result }
     ensures not_disk { IfErr result (λ fault. IsNotDiskFault fault) }
 {
-    let own = only_row(alloc, row_copy(alloc, row)?)?;
+    let own = only_row(alloc, row)?;
     let sources = with_source(alloc, outer.rows, own)?;
     let picked = first_places(alloc, sources.len())?;
     let given = set_terms(alloc, sets, &sources, &picked)?;
     let places = places_set(alloc, sets)?;
-    let mut values = row.values(alloc)?.into_vec();
+    let mut values = values;
     put_given(alloc, &mut values, &places, &given)?;
     Ok(values)
 }

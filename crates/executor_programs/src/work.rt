@@ -1,11 +1,12 @@
 //! A change whose names are looked up, with all rows that it is about.
 
-ghost use Rattle.std.specs.Prelude.{◌≡◌, ◌≤◌, length, map, IsTrue};
+ghost use Rattle.std.specs.Prelude.{◌≡◌, ◌≤◌, length, map, option_map, slice_get, IsTrue};
 ghost use Rattle.sqlval.specs.Faults.{IsOrMemory};
 ghost use Rattle.pages.specs.Calls.{Stays};
 ghost use Rattle.sql_syntax.specs.declared.change.Change as meant_change;
 ghost use Rattle.trigger_names.specs.declared.changes.BoundChange.TheVariants as bound_as;
 ghost use Rattle.catalog.specs.Listed.{listed_in};
+ghost use Rattle.row_change.specs.NewRows.{row_of as pair_of};
 ghost use Rattle.trigger.specs.Effects.{id_of};
 ghost use Rattle.trigger_names.specs.Resolved.{GivesAsMany};
 ghost use Rattle.executor_programs.specs.Acts.{ChangesAs, IsTableAct, IsViewAct, WorksAs};
@@ -16,7 +17,7 @@ use crate::acts::{Act, TableItem, ViewItem, Work, act_around};
 use crate::choosing::chosen_rows;
 use crate::outer::OuterRows;
 use crate::querying::given_rows;
-use catalog::{Catalog, Table, listed_tables_are_found};
+use catalog::{Catalog, Table, TableRow, listed_tables_are_found};
 use executor::places_by_column;
 use pages::Pages;
 use query_bind::bind_source;
@@ -26,13 +27,26 @@ use row_scan::Rows;
 use sql_syntax::Change;
 use sqlval::{Fault, R};
 use std::alloc::Global;
-use trigger_names::{BoundChange, BoundRows, bind_change, target_of};
+use trigger_names::{BoundChange, BoundRows, target_of};
 
 /// The rowids of rows; 0 where one has none.
 fn rowid_of(row: &SourceRow) -> i64
     ensures { result ≡ id_of row.now }
 {
     row.rowid().unwrap_or(0)
+}
+
+/// The first of a table's rows, if there is one. (`Memory` alone.)
+fn first_row(alloc: Global, rows: &[SourceRow]) -> R<Option<TableRow>>
+    ensures { IsOrMemory (λ first. option_map pair_of first ≡ option_map (λ r. (id_of r, r.values)) (slice_get rows.now 0)) result }
+{
+    let Some(row) = rows.first() else {
+        return Ok(None);
+    };
+    Ok(Some(TableRow {
+        rowid: rowid_of(row),
+        values: row.values(alloc)?.into_vec(),
+    }))
 }
 
 /// Rows of a table that are inserted. (`Memory` alone.)
@@ -124,7 +138,7 @@ fn insert_rows<'a, P: Pages>(
     act.places = places;
     let found = given_rows(alloc, pages, catalog, outer, rows)?;
     let items = inserted_items(alloc, found)?;
-    Ok(Work::Table(table, act, items))
+    Ok(Work::Table(table, act, items, None))
 }
 
 /// An UPDATE of a table's rows. (What `chosen_rows` refuses.)
@@ -151,7 +165,8 @@ fn update_rows<'a, P: Pages>(
     let name = target_of(change);
     let found = chosen_rows(alloc, pages, catalog, name, outer, &condition)?;
     let items = updated_items(alloc, &found)?;
-    Ok(Work::Table(table, act, items))
+    let first = first_row(alloc, &found)?;
+    Ok(Work::Table(table, act, items, first))
 }
 
 /// A DELETE of a table's rows. (What `chosen_rows` refuses.)
@@ -175,7 +190,8 @@ fn delete_rows<'a, P: Pages>(
     let name = target_of(change);
     let found = chosen_rows(alloc, pages, catalog, name, outer, &condition)?;
     let items = deleted_items(alloc, &found)?;
-    Ok(Work::Table(table, act, items))
+    let first = first_row(alloc, &found)?;
+    Ok(Work::Table(table, act, items, first))
 }
 
 /// A change of a table's rows. (What `given_rows` and `chosen_rows` refuse.)
@@ -322,18 +338,18 @@ fn view_work<'a, P: Pages>(
     }
 }
 
-/// Looks up the names of a change beside NEW and OLD, and finds all rows that it is about. (What `bind_change`, `table_work` and `view_work`
-/// refuse.)
+/// Finds all rows that a change is about whose names were looked up, and the triggers around them. (What `table_work` and `view_work` refuse.)
 pub(crate) fn work_of<'a, P: Pages>(
     alloc: Global,
     pages: &mut P,
     catalog: &'a Catalog,
     outer: OuterRows<'_>,
     change: &Change,
+    bound: BoundChange,
 ) -> R<Work<'a>>
     ensures found { IsTrue (P.Pages.tells (P.Pages.below pages.old))
         → ChangesAs (P.Pages.map pages.old) (P.Pages.limits (P.Pages.below pages.old)).page
-        (listed_in catalog.now) outer.entry change.now result }
+        (listed_in catalog.now) outer.entry change.now bound result }
     ensures stays { Stays P.Pages.below P.Pages.map P.Pages.count P.Pages.failures result pages.old pages.new }
 {
     listed_tables_are_found();
@@ -342,7 +358,6 @@ pub(crate) fn work_of<'a, P: Pages>(
     let source = bind_source(alloc, catalog, name)?;
     let table = catalog.table(name.as_str());
     let act = act_around(alloc, catalog, &source, change, table.is_some())?;
-    let bound = bind_change(alloc, catalog, outer.scope, change)?;
     match table {
         Some(table) => table_work(alloc, pages, catalog, outer, change, bound, table, act),
         None => {

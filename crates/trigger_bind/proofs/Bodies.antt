@@ -103,8 +103,8 @@ knows_memory rs (Err e) none memory = inl memory
 pub knows_as : {rs ss : List Refusal} → rs ≡ ss → (result : Result (Unit {0}) Fault) → Knows ss result → Knows rs result
 knows_as same result h = subst (λ xs. Knows xs result) (sym same) h
 
--- of a call that answers nothing
-pub matched : (Done : Type 0) (Is : Fault → Type 0) (fault : Fault) (result : Result (Unit {0}) Fault) → IsErrAnd result (λ e. e ≡ fault) → Is fault → MatchResult result (λ done. Done) Is
+-- of a call that hands a refusal on
+pub matched : {A : Type 0} (Done : Type 0) (Is : Fault → Type 0) (fault : Fault) (result : Result A Fault) → IsErrAnd result (λ e. e ≡ fault) → Is fault → MatchResult result (λ done. Done) Is
 matched Done Is fault (Ok done) same h = absurd same
 matched Done Is fault (Err e) same h = subst Is (sym same) h
 

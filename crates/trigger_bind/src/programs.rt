@@ -39,7 +39,7 @@ fn know_names(alloc: Global, catalog: &Catalog, outer: &[ScopeSource], change: &
 }
 
 /// Looks up the names of a change, and notes the triggers that it sets off. (What `know_names` refuses.)
-pub(crate) fn know_beside(
+fn know_beside(
     alloc: Global,
     catalog: &Catalog,
     outer: &[ScopeSource],

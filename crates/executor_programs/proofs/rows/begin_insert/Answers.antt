@@ -8,7 +8,7 @@ use Rattle.executor_programs.proofs.Beginning.{handed_on, here, insert_begun, in
 use Rattle.executor_programs.proofs.rows.begin_insert.Goals as goal
 
 pub returns-in_err-kept-clause-begun : goal.returns-in_err-kept-clause-begun
-returns-in_err-kept-clause-begun c = λ pages size l o change db seen stored shows tabled for.
+returns-in_err-kept-clause-begun c = λ pages size l o change known db seen stored shows tabled for there.
     (let h = here c.listed_tables_are_found.ensures.finds pages size l db change c.args.table.now stored tabled.named in
     let cols : c.as_slice-columns.result.now ≡ c.args.table.now.columns = search rules in
     let more : c.as_slice.result.now ≡ c.args.given.now.items = search rules in
@@ -23,7 +23,7 @@ returns-in_err-kept-clause-not_disk c =
     (stored_quietly (map as_column c.as_slice-columns.result.now) c.deref-2.result.now c.in_err-kept.field-0.0 c.in_err-kept.ensures)
 
 pub returns-clause-begun : goal.returns-clause-begun
-returns-clause-begun c = λ pages size l o change db seen stored shows tabled for.
+returns-clause-begun c = λ pages size l o change known db seen stored shows tabled for there.
     (let h = here c.listed_tables_are_found.ensures.finds pages size l db change c.args.table.now stored tabled.named in
     let cols : c.as_slice-columns.result.now ≡ c.args.table.now.columns = search rules in
     let more : c.as_slice.result.now ≡ c.args.given.now.items = search rules in

@@ -1,5 +1,5 @@
 -- What each function of the ring makes of the pages.
-use Rattle.std.proofs.Common.{rules, ◌≡◌, ◌∷◌, ◌∙◌, refl, sym, ap, subst, List, ℕ, ◌-◌, length, take, drop, Bool, true, false, Ok, Err, Option, inl}
+use Rattle.std.proofs.Common.{rules, ◌≡◌, ◌∷◌, ◌∙◌, refl, sym, ap, subst, List, ℕ, ◌-◌, ◌==◌, length, take, drop, Bool, true, false, Ok, Err, Option, inl}
 use Rattle.std.specs.declared.alloc.Global.{Global}
 use Rattle.std.specs.declared.rc.Rc.{Rc}
 use Rattle.sqlval.specs.Names.{folded}
@@ -29,11 +29,17 @@ use Rattle.row_change.specs.RowChanges.{Firing}
 use Rattle.trigger_bind.specs.Choosing.{named_definition}
 use Rattle.trigger_bind.specs.Knowing.{KnowsStatement}
 use Rattle.executor_programs.specs.Acts.{IsItemOf, IsSeenOf, IsWorkOf}
-use Rattle.executor_programs.specs.Begun.{Finishes, IsBegunAs}
+use Rattle.executor_programs.specs.Begun.{Finishes, IsBegunAs, IsRowOnPages}
 use Rattle.executor_programs.specs.Rows.{begun, columns_listed_of, row_changed, rows_seen, seen_changed}
 use Rattle.executor_programs.specs.declared.acts.Work.{Work}
 use Rattle.executor_programs.specs.declared.rows.Begun.{Begun}
-use Rattle.executor_programs.proofs.Beside.{as_fired, causes_none, firing_for, knows_each, memory_alone, shows_row}
+use Rattle.executor_programs.proofs.Beside.{as_fired, causes_none, firing_at, fires_nothing, knows_each, memory_alone, set_off_around, shows_row, shows_so}
+use Rattle.executor_programs.proofs.Untouched.{stays_untouched}
+use Rattle.executor_programs.proofs.WorkOf.{only_memory, same_outer}
+use Rattle.query_bind.specs.Named.{AreOuter}
+use Rattle.query_names.specs.Bound.{IsFaultOf}
+use Rattle.query_names.specs.Checked.{faults}
+use Rattle.row_change.specs.Changes.{Outer, resolve_change}
 use Rattle.executor_programs.proofs.Changing.{ends, row_gone, row_unread, stops_before, stops_within}
 use Rattle.executor_programs.proofs.Firing.{deep, held_of, is_running_now, isnt_true, pushed, runs_body, skips, unread, unread_of}
 use Rattle.executor_programs.proofs.Reading.{changes, not_begun, reads}
@@ -72,11 +78,11 @@ change_one_seen-returns-clause-runs g t c = λ seen ch told shows is each knows 
     let knows1 = knows_each l ch InsteadOf c.deref-3.result.now f row these c.listed_tables_are_known.ensures knows in
     changes_seen l ch seen act item fire db new size s.p c.fire.result s.is
     (as_fired l ch InsteadOf c.deref-3.result.now f row these (pages.map old) new size (programs room) names names c.fire.result refl
-    (c.fire.ensures.runs (outer_of f) told (shows_row l ch InsteadOf act f _ is.around row c.deref.ensures.value (c.deref-2.ensures.value ∙ s.are)) knows1) db held))
+    (c.fire.ensures.runs (outer_of f) told (shows_row l ch act f _ is.around row c.deref.ensures.value (c.deref-2.ensures.value ∙ s.are)) knows1) db held))
 
 -- src/running.rt:216:23
 pub change_row-returns-in_err-begun-clause-runs : goal.change_row-returns-in_err-begun-clause-runs
-change_row-returns-in_err-begun-clause-runs g t c = λ seen ch told shows is each knows db held.
+change_row-returns-in_err-begun-clause-runs g t c = λ seen ch told shows is each knows there db held.
     (let pages = g.P.Pages in
     let old = c.args.pages.now in
     let size = (pages.limits (pages.below old)).page in
@@ -89,11 +95,11 @@ change_row-returns-in_err-begun-clause-runs g t c = λ seen ch told shows is eac
     let item = c.args.item.now in
     let e : Fault = c.in_err-begun.field-0.0 in
     failed (pages.map c.begin.new.pages) size l (row_changed fire seen ch act item db) c.from_residual.result e c.from_residual.ensures.1
-    (row_unread fire seen ch act item db l e (c.in_err-begun.ensures.begun ch told db seen held shows is each)))
+    (row_unread fire seen ch act item db l e (c.in_err-begun.ensures.begun ch told db seen held shows is each (there db held))))
 
 -- src/running.rt:217:9
 pub change_row-returns-in_default-clause-runs : goal.change_row-returns-in_default-clause-runs
-change_row-returns-in_default-clause-runs g t c = λ seen ch told shows is each knows db held.
+change_row-returns-in_default-clause-runs g t c = λ seen ch told shows is each knows there db held.
     (let pages = g.P.Pages in
     let old = c.args.pages.now in
     let size = (pages.limits (pages.below old)).page in
@@ -107,13 +113,17 @@ change_row-returns-in_default-clause-runs g t c = λ seen ch told shows is each 
     record {
       made = db;
       is = row_gone fire seen ch act item db
-          (subst (λ (x : Option Begun). IsBegunAs l ch table act item (begun seen ch act item db) x) c.in_default.is (c.in_ok-begun.ensures.begun ch told db seen held shows is each));
+          (subst (λ (x : Option Begun). IsBegunAs l ch table act item (begun seen ch act item db) x) c.in_default.is (c.in_ok-begun.ensures.begun ch told db seen held shows is each (there db held)));
       stored = subst (λ (m : PageMap). Stores m size l db) (sym c.in_ok-begun.ensures.stays.same) held;
     })
 
--- src/running.rt:219:16
-pub change_row-returns-in_err-rows-clause-runs : goal.change_row-returns-in_err-rows-clause-runs
-change_row-returns-in_err-rows-clause-runs g t c = λ seen ch told shows is each knows db held.
+-- src/running.rt:216:5
+pub change_row-fire_at-requires : goal.change_row-fire_at-requires
+change_row-fire_at-requires g t c κs within = search rules
+
+-- src/running.rt:216:5
+pub change_row-returns-in_err-fire_at-clause-runs : goal.change_row-returns-in_err-fire_at-clause-runs
+change_row-returns-in_err-fire_at-clause-runs g t c = λ seen ch told shows is each knows there db held.
     (let pages = g.P.Pages in
     let old = c.args.pages.now in
     let size = (pages.limits (pages.below old)).page in
@@ -125,58 +135,21 @@ change_row-returns-in_err-rows-clause-runs g t c = λ seen ch told shows is each
     let act = c.args.act.now in
     let item = c.args.item.now in
     let b : Begun = c.in-Some.begun in
-    let begins = subst (λ (x : Option Begun). IsBegunAs l ch table act item (begun seen ch act item db) x) c.in-Some.is (c.in_ok-begun.ensures.begun ch told db seen held shows is each) in
+    let begins = subst (λ (x : Option Begun). IsBegunAs l ch table act item (begun seen ch act item db) x) c.in-Some.is (c.in_ok-begun.ensures.begun ch told db seen held shows is each (there db held)) in
     let f : Firing = begins.0 in
     let row = begins.2.row in
-    let e : Fault = c.in_err-rows.field-0.0 in
-    failed (pages.map c.begin.new.pages) size l (row_changed fire seen ch act item db) c.from_residual-in_err-rows.result e c.from_residual-in_err-rows.ensures.1
-    (inl (inl (inl (c.in_err-rows.ensures f begins.2.at)))))
-
--- src/running.rt:219:16
-pub change_row-returns-in_err-rows-clause-causes :
-    goal.change_row-returns-in_err-rows-clause-causes
-change_row-returns-in_err-rows-clause-causes g t c = (let pages = g.P.Pages in
-    let e : Fault = c.in_err-rows.field-0.0 in
-    let w = firing_for c.in-Some.begun in
-    let new = c.begin.new.pages in
-    causes_none c.from_residual-in_err-rows.result e (pages.failures c.args.pages.now) (pages.failures new) (pages.count new ≡ (pages.limits (pages.below new)).most) c.from_residual-in_err-rows.ensures.1
-    (memory_alone e (c.in_err-rows.ensures w.0 w.1)) c.in_ok-begun.ensures.stays.causes.db c.in_ok-begun.ensures.stays.causes.log)
-
--- src/running.rt:224:5
-pub change_row-fire-requires : goal.change_row-fire-requires
-change_row-fire-requires g t c κs within = search rules
-
--- src/running.rt:224:5
-pub change_row-returns-in_err-fire-clause-runs : goal.change_row-returns-in_err-fire-clause-runs
-change_row-returns-in_err-fire-clause-runs g t c = λ seen ch told shows is each knows db held.
-    (let pages = g.P.Pages in
-    let old = c.args.pages.now in
-    let size = (pages.limits (pages.below old)).page in
-    let room = c.args.run.room in
-    let l = listed_in c.args.run.catalog.now in
-    let names = running_names c.args.running.now.items in
-    let fire = fired (programs room) names in
-    let table = c.args.table.now in
-    let act = c.args.act.now in
-    let item = c.args.item.now in
-    let b : Begun = c.in-Some.begun in
-    let begins = subst (λ (x : Option Begun). IsBegunAs l ch table act item (begun seen ch act item db) x) c.in-Some.is (c.in_ok-begun.ensures.begun ch told db seen held shows is each) in
-    let f : Firing = begins.0 in
-    let row = begins.2.row in
-    let e : Fault = c.in_err-fire.field-0.0 in
     let mid = c.begin.new.pages in
-    let last = pages.map c.fire.new.pages in
-    let these = subst (λ (ts : List (Rc Trigger Global)). OnEach l (λ db. definitions ts ≡ triggers_at Before (aim_of ch).event db (aim_of ch).target)) (sym c.deref-3.ensures.value) is.around.before in
-    let knows1 = knows_each l ch Before c.deref-3.result.now f row these c.listed_tables_are_known.ensures knows in
+    let last = pages.map c.fire_at.new.pages in
+    let these = set_off_around l ch Before Before act c.deref.result.now c.deref-2.result.now is.around c.deref.ensures.value (λ some alone. some (ap (λ (ts : List (Rc Trigger Global)). length ts) c.deref-2.ensures.value ∙ alone.1.0))
+    (subst (λ (ts : List (Rc Trigger Global)). OnEach l (λ db. definitions ts ≡ triggers_at Before (aim_of ch).event db (aim_of ch).target)) (sym c.deref-2.ensures.value) is.around.before) in
+    let e : Fault = c.in_err-fire_at.field-0.0 in
     let before = after_reading pages.below pages.tells pages.limits pages.map old mid (λ (m : PageMap) (n : ℕ). Runs m last n l (fired (programs room) names Before f) (Err e)) c.in_ok-begun.ensures.stays.kept c.in_ok-begun.ensures.stays.same
-    (λ told. as_fired l ch Before c.deref-3.result.now f row these (pages.map mid) last (pages.limits (pages.below mid)).page (programs room) names names (Err e) refl
-    (c.in_err-fire.ensures.runs (outer_of f) told (shows_row l ch Before act f _ is.around row c.deref.ensures.value (c.deref-2.ensures.value ∙ c.in_ok-rows.ensures f begins.2.at)) knows1)) told in
-    failed last size l (row_changed fire seen ch act item db) c.from_residual-in_err-fire.result e c.from_residual-in_err-fire.ensures.1 (stops_before fire seen ch act item db f begins.1 l e (before db held)))
+    (λ told. c.in_err-fire_at.ensures.runs ch Before f told these row begins.2.at knows) told in
+    failed last size l (row_changed fire seen ch act item db) c.from_residual-in_err-fire_at.result e c.from_residual-in_err-fire_at.ensures.1 (stops_before fire seen ch act item db f begins.1 l e (before db held)))
 
--- src/running.rt:225:16
-pub change_row-returns-in_err-rows-2-clause-runs :
-    goal.change_row-returns-in_err-rows-2-clause-runs
-change_row-returns-in_err-rows-2-clause-runs g t c = λ seen ch told shows is each knows db held.
+-- src/running.rt:217:16
+pub change_row-returns-in_err-now-clause-runs : goal.change_row-returns-in_err-now-clause-runs
+change_row-returns-in_err-now-clause-runs g t c = λ seen ch told shows is each knows there db held.
     (let pages = g.P.Pages in
     let old = c.args.pages.now in
     let size = (pages.limits (pages.below old)).page in
@@ -188,32 +161,33 @@ change_row-returns-in_err-rows-2-clause-runs g t c = λ seen ch told shows is ea
     let act = c.args.act.now in
     let item = c.args.item.now in
     let b : Begun = c.in-Some.begun in
-    let begins = subst (λ (x : Option Begun). IsBegunAs l ch table act item (begun seen ch act item db) x) c.in-Some.is (c.in_ok-begun.ensures.begun ch told db seen held shows is each) in
+    let begins = subst (λ (x : Option Begun). IsBegunAs l ch table act item (begun seen ch act item db) x) c.in-Some.is (c.in_ok-begun.ensures.begun ch told db seen held shows is each (there db held)) in
     let f : Firing = begins.0 in
     let row = begins.2.row in
-    let e : Fault = c.in_err-rows-2.field-0.0 in
-    let new = pages.map c.finish.new.pages in
     let mid = c.begin.new.pages in
-    let last = pages.map c.fire.new.pages in
-    let these = subst (λ (ts : List (Rc Trigger Global)). OnEach l (λ db. definitions ts ≡ triggers_at Before (aim_of ch).event db (aim_of ch).target)) (sym c.deref-3.ensures.value) is.around.before in
-    let knows1 = knows_each l ch Before c.deref-3.result.now f row these c.listed_tables_are_known.ensures knows in
+    let last = pages.map c.fire_at.new.pages in
+    let these = set_off_around l ch Before Before act c.deref.result.now c.deref-2.result.now is.around c.deref.ensures.value (λ some alone. some (ap (λ (ts : List (Rc Trigger Global)). length ts) c.deref-2.ensures.value ∙ alone.1.0))
+    (subst (λ (ts : List (Rc Trigger Global)). OnEach l (λ db. definitions ts ≡ triggers_at Before (aim_of ch).event db (aim_of ch).target)) (sym c.deref-2.ensures.value) is.around.before) in
+    let e : Fault = c.in_err-now.field-0.0 in
+    let new = pages.map c.finish.new.pages in
     let before = after_reading pages.below pages.tells pages.limits pages.map old mid (λ (m : PageMap) (n : ℕ). Runs m last n l (fired (programs room) names Before f) (Ok tt)) c.in_ok-begun.ensures.stays.kept c.in_ok-begun.ensures.stays.same
-    (λ told. as_fired l ch Before c.deref-3.result.now f row these (pages.map mid) last (pages.limits (pages.below mid)).page (programs room) names names (Ok tt) refl
-    (c.in_ok-fire.ensures.runs (outer_of f) told (shows_row l ch Before act f _ is.around row c.deref.ensures.value (c.deref-2.ensures.value ∙ c.in_ok-rows.ensures f begins.2.at)) knows1)) told in
+    (λ told. c.in_ok-fire_at.ensures.runs ch Before f told these row begins.2.at knows) told in
     let ran = before db held in
-    let mid2 = c.fire.new.pages in
-    let kept2 = c.in_ok-fire.ensures.kept ∙ c.in_ok-begun.ensures.stays.kept in
-    let finishes = since pages.below pages.tells pages.limits old mid2 (λ (n : ℕ). Finishes (pages.map mid2) new n l ch table act item b (Err e)) kept2 (λ told. c.in_err-rows-2.ensures.finished ch told) told in
-    failed new size l (row_changed fire seen ch act item db) c.from_residual-in_err-rows-2.result e c.from_residual-in_err-rows-2.ensures.1
-    (stops_within fire seen ch act item db f begins.1 ran.made ran.is l e (finishes ran.made f ran.stored is each begins.2)))
+    let mid2 = c.fire_at.new.pages in
+    let kept2 = c.in_ok-fire_at.ensures.kept ∙ c.in_ok-begun.ensures.stays.kept in
+    let alone = length act.before.items == 0 in
+    let still = stays_untouched seen ch act db (programs room) names l table item b f ran.made (pages.map old) size held begins.1 begins.2 is.around.before ran.is in
+    let finishes = since pages.below pages.tells pages.limits old mid2 (λ (n : ℕ). Finishes (pages.map mid2) new n l ch table act item b alone (Err e)) kept2 (λ told. c.in_err-now.ensures.finished ch told) told in
+    failed new size l (row_changed fire seen ch act item db) c.from_residual-in_err-now.result e c.from_residual-in_err-now.ensures.1
+    (stops_within fire seen ch act item db f begins.1 ran.made ran.is l e (finishes ran.made f ran.stored is each begins.2 still)))
 
--- src/running.rt:230:5
-pub change_row-fire-requires-2 : goal.change_row-fire-requires-2
-change_row-fire-requires-2 g t c κs within = search rules
+-- src/running.rt:219:5
+pub change_row-fire_at-requires-2 : goal.change_row-fire_at-requires-2
+change_row-fire_at-requires-2 g t c κs within = search rules
 
 -- src/running.rt:195:1
 pub change_row-returns-clause-runs : goal.change_row-returns-clause-runs
-change_row-returns-clause-runs g t c = λ seen ch told shows is each knows db held.
+change_row-returns-clause-runs g t c = λ seen ch told shows is each knows there db held.
     (let pages = g.P.Pages in
     let old = c.args.pages.now in
     let size = (pages.limits (pages.below old)).page in
@@ -225,32 +199,84 @@ change_row-returns-clause-runs g t c = λ seen ch told shows is each knows db he
     let act = c.args.act.now in
     let item = c.args.item.now in
     let b : Begun = c.in-Some.begun in
-    let begins = subst (λ (x : Option Begun). IsBegunAs l ch table act item (begun seen ch act item db) x) c.in-Some.is (c.in_ok-begun.ensures.begun ch told db seen held shows is each) in
+    let begins = subst (λ (x : Option Begun). IsBegunAs l ch table act item (begun seen ch act item db) x) c.in-Some.is (c.in_ok-begun.ensures.begun ch told db seen held shows is each (there db held)) in
     let f : Firing = begins.0 in
     let row = begins.2.row in
     let mid = c.begin.new.pages in
-    let last = pages.map c.fire.new.pages in
-    let these = subst (λ (ts : List (Rc Trigger Global)). OnEach l (λ db. definitions ts ≡ triggers_at Before (aim_of ch).event db (aim_of ch).target)) (sym c.deref-3.ensures.value) is.around.before in
-    let knows1 = knows_each l ch Before c.deref-3.result.now f row these c.listed_tables_are_known.ensures knows in
+    let last = pages.map c.fire_at.new.pages in
+    let these = set_off_around l ch Before Before act c.deref.result.now c.deref-2.result.now is.around c.deref.ensures.value (λ some alone. some (ap (λ (ts : List (Rc Trigger Global)). length ts) c.deref-2.ensures.value ∙ alone.1.0))
+    (subst (λ (ts : List (Rc Trigger Global)). OnEach l (λ db. definitions ts ≡ triggers_at Before (aim_of ch).event db (aim_of ch).target)) (sym c.deref-2.ensures.value) is.around.before) in
     let before = after_reading pages.below pages.tells pages.limits pages.map old mid (λ (m : PageMap) (n : ℕ). Runs m last n l (fired (programs room) names Before f) (Ok tt)) c.in_ok-begun.ensures.stays.kept c.in_ok-begun.ensures.stays.same
-    (λ told. as_fired l ch Before c.deref-3.result.now f row these (pages.map mid) last (pages.limits (pages.below mid)).page (programs room) names names (Ok tt) refl
-    (c.in_ok-fire.ensures.runs (outer_of f) told (shows_row l ch Before act f _ is.around row c.deref.ensures.value (c.deref-2.ensures.value ∙ c.in_ok-rows.ensures f begins.2.at)) knows1)) told in
+    (λ told. c.in_ok-fire_at.ensures.runs ch Before f told these row begins.2.at knows) told in
     let ran = before db held in
-    let mid2 = c.fire.new.pages in
-    let kept2 = c.in_ok-fire.ensures.kept ∙ c.in_ok-begun.ensures.stays.kept in
-    let rows2 = c.in_ok-rows-2.rows in
-    let finishes = since pages.below pages.tells pages.limits old mid2 (λ (n : ℕ). Finishes (pages.map mid2) (pages.map c.finish.new.pages) n l ch table act item b (Ok rows2)) kept2 (λ told. c.in_ok-rows-2.ensures.finished ch told) told in
-    let fin = finishes ran.made f ran.stored is each begins.2 in
+    let mid2 = c.fire_at.new.pages in
+    let kept2 = c.in_ok-fire_at.ensures.kept ∙ c.in_ok-begun.ensures.stays.kept in
+    let alone = length act.before.items == 0 in
+    let still = stays_untouched seen ch act db (programs room) names l table item b f ran.made (pages.map old) size held begins.1 begins.2 is.around.before ran.is in
+    let now = c.in_ok-now.now in
+    let finishes = since pages.below pages.tells pages.limits old mid2 (λ (n : ℕ). Finishes (pages.map mid2) (pages.map c.finish.new.pages) n l ch table act item b alone (Ok now)) kept2 (λ told. c.in_ok-now.ensures.finished ch told) told in
+    let fin = finishes ran.made f ran.stored is each begins.2 still in
     let mid3 = c.finish.new.pages in
-    let kept3 = c.in_ok-rows-2.ensures.kept ∙ kept2 in
-    let new = pages.map c.fire-2.new.pages in
-    let these2 = subst (λ (ts : List (Rc Trigger Global)). OnEach l (λ db. definitions ts ≡ triggers_at After (aim_of ch).event db (aim_of ch).target)) (sym c.deref-6.ensures.value) is.around.after in
-    let knows2 = knows_each l ch After c.deref-6.result.now fin.f fin.row these2 c.listed_tables_are_known.ensures knows in
-    let after = since pages.below pages.tells pages.limits old mid3 (λ (n : ℕ). Runs (pages.map mid3) new n l (fired (programs room) names After fin.f) c.fire-2.result) kept3
-    (λ told. as_fired l ch After c.deref-6.result.now fin.f fin.row these2 (pages.map mid3) new (pages.limits (pages.below mid3)).page (programs room) names (running_names c.fire.new.running.items) c.fire-2.result
-    (ap running_names c.in_ok-fire.ensures.running)
-    (c.fire-2.ensures.runs (outer_of fin.f) told (shows_row l ch Before act fin.f _ is.around fin.row c.deref-4.ensures.value (c.deref-5.ensures.value ∙ fin.rows_are)) knows2)) told in
-    ends fire seen ch act item db f begins.1 ran.made ran.is new size l fin.made fin.f c.fire-2.result fin.is (after fin.made fin.stored))
+    let kept3 = c.in_ok-now.ensures.kept ∙ kept2 in
+    let new = pages.map c.fire_at-2.new.pages in
+    let those = set_off_around l ch Before After act c.deref-3.result.now c.deref-4.result.now is.around c.deref-3.ensures.value (λ some alone. some (ap (λ (ts : List (Rc Trigger Global)). length ts) c.deref-4.ensures.value ∙ alone.1.1))
+    (subst (λ (ts : List (Rc Trigger Global)). OnEach l (λ db. definitions ts ≡ triggers_at After (aim_of ch).event db (aim_of ch).target)) (sym c.deref-4.ensures.value) is.around.after) in
+    let after = since pages.below pages.tells pages.limits old mid3 (λ (n : ℕ). Runs (pages.map mid3) new n l (fired (programs room) names After fin.f) c.fire_at-2.result) kept3
+    (λ told. subst (λ (ns : List Name). Runs (pages.map mid3) new (pages.limits (pages.below mid3)).page l (fired (programs room) ns After fin.f) c.fire_at-2.result) (ap running_names c.in_ok-fire_at.ensures.running)
+    (c.fire_at-2.ensures.runs ch After fin.f told those fin.row (fin.new_is, fin.old_is) knows)) told in
+    ends fire seen ch act item db f begins.1 ran.made ran.is new size l fin.made fin.f c.fire_at-2.result fin.is (after fin.made fin.stored))
+
+-- src/running.rt:240:5
+pub fire_at-returns-then-is_empty-clause-runs : goal.fire_at-returns-then-is_empty-clause-runs
+fire_at-returns-then-is_empty-clause-runs g t c = λ ch time f told these row at knows db held.
+    (let pages = g.P.Pages in
+    let old = pages.map c.args.pages.now in
+    let size = (pages.limits (pages.below c.args.pages.now)).page in
+    let l = listed_in c.args.run.catalog.now in
+    let names = running_names c.args.running.now.items in
+    let none : length c.args.triggers.now ≡ 0 = search rules in
+    as_fired l ch time c.args.triggers.now f row these.those old old size (programs c.args.run.room) names names (Ok tt) refl
+    (fires_nothing old size l (programs c.args.run.room) names (outer_of f) c.args.triggers.now none) db held)
+
+-- src/running.rt:243:16
+pub fire_at-returns-in_err-rows-clause-runs : goal.fire_at-returns-in_err-rows-clause-runs
+fire_at-returns-in_err-rows-clause-runs g t c = λ ch time f told these row at knows db held.
+    (let pages = g.P.Pages in
+    let old = pages.map c.args.pages.now in
+    let size = (pages.limits (pages.below c.args.pages.now)).page in
+    let l = listed_in c.args.run.catalog.now in
+    let names = running_names c.args.running.now.items in
+    let e : Fault = c.in_err-rows.field-0.0 in
+    failed old size l (fired (programs c.args.run.room) names time f db) c.from_residual.result e c.from_residual.ensures.1 (inl (inl (inl (c.in_err-rows.ensures f at)))))
+
+-- src/running.rt:243:16
+pub fire_at-returns-in_err-rows-clause-causes : goal.fire_at-returns-in_err-rows-clause-causes
+fire_at-returns-in_err-rows-clause-causes g t c =
+    (let pages = g.P.Pages in
+    let e : Fault = c.in_err-rows.field-0.0 in
+    let w = firing_at c.args.event in
+    let now = c.args.pages.now in
+    causes_none c.from_residual.result e (pages.failures now) (pages.failures now) (pages.count now ≡ (pages.limits (pages.below now)).most) c.from_residual.ensures.1
+    (memory_alone e (c.in_err-rows.ensures w.0 w.1)) (search rules) (search rules))
+
+-- src/running.rt:245:5
+pub fire_at-fire-requires : goal.fire_at-fire-requires
+fire_at-fire-requires g t c κs within = search rules
+
+-- src/running.rt:222:1
+pub fire_at-returns-clause-runs : goal.fire_at-returns-clause-runs
+fire_at-returns-clause-runs g t c = λ ch time f told these row at knows db held.
+    (let pages = g.P.Pages in
+    let old = pages.map c.args.pages.now in
+    let size = (pages.limits (pages.below c.args.pages.now)).page in
+    let l = listed_in c.args.run.catalog.now in
+    let names = running_names c.args.running.now.items in
+    let room = c.args.run.room in
+    let new = pages.map c.fire.new.pages in
+    let some : length c.args.triggers.now ≡ 0 → ⊥ = λ none. absurd (search rules) in
+    let known = knows_each l ch time c.args.triggers.now f row these.those c.listed_tables_are_known.ensures knows in
+    as_fired l ch time c.args.triggers.now f row these.those old new size (programs room) names names c.fire.result refl
+    (c.fire.ensures.runs (outer_of f) told (shows_so l ch time c.args.scope.now c.args.triggers.now f _ these some row refl (c.deref.ensures.value ∙ c.in_ok-rows.ensures f at)) known) db held)
 
 -- src/running.rt:187:5
 pub change_rows-rows-init : goal.change_rows-rows-init
@@ -263,7 +289,7 @@ change_rows-change_row-requires g t c κs within = search rules
 -- src/running.rt:188:9
 pub change_rows-returns-in_err-change_row-clause-runs :
     goal.change_rows-returns-in_err-change_row-clause-runs
-change_rows-returns-in_err-change_row-clause-runs g t c = λ seen ch told shows is each knows.
+change_rows-returns-in_err-change_row-clause-runs g t c = λ seen ch told shows is each knows there.
     (let pages = g.P.Pages in
     let old = c.args.pages.now in
     let mid = c.rows.pages in
@@ -279,12 +305,12 @@ change_rows-returns-in_err-change_row-clause-runs g t c = λ seen ch told shows 
     let new = pages.map c.change_row.new.pages in
     let f : Fault = c.in_err-change_row.field-0.0 in
     let result = c.from_residual.result in
-    let ran = since pages.below pages.tells pages.limits old mid (λ (n : ℕ). RowChanges room l (running_names c.rows.running.items) o c.args.table.now c.args.act.now (pages.map mid) new n item (Err f)) c.rows.invariant.1.kept
-    (λ told seen ch shows is each knows. c.in_err-change_row.ensures.runs seen ch told shows is each knows) told in
-    let one = subst (λ (ns : List Name). RowChanges room l ns o c.args.table.now c.args.act.now (pages.map mid) new size item (Err f)) (ap running_names c.rows.invariant.0) ran in
+    let ran = since pages.below pages.tells pages.limits old mid (λ (n : ℕ). RowChanges room l (running_names c.rows.running.items) o c.args.table.now c.args.act.now (pages.map mid) new n c.rows.known item (Err f)) c.rows.invariant.1.kept
+    (λ told seen ch shows is each knows there. c.in_err-change_row.ensures.runs seen ch told shows is each knows there) told in
+    let one = subst (λ (ns : List Name). RowChanges room l ns o c.args.table.now c.args.act.now (pages.map mid) new size c.rows.known item (Err f)) (ap running_names c.rows.invariant.0) ran in
     c.rows.invariant.1.decides told new result
-    (stopped (λ (them : List TableItem). RowsChange room l names o c.args.table.now c.args.act.now (pages.map mid) new size them) item rest left f result same c.from_residual.ensures.1
-    (rows_stop room l names o (pages.map mid) new new size c.args.table.now c.args.act.now item rest f one)) seen ch shows is each knows)
+    (stopped (λ (them : List TableItem). RowsChange room l names o c.args.table.now c.args.act.now (pages.map mid) new size (c.rows.known, them)) item rest left f result same c.from_residual.ensures.1
+    (rows_stop room l names o (pages.map mid) new new size c.args.table.now c.args.act.now c.rows.known item rest f one)) seen ch shows is each knows there)
 
 -- src/running.rt:188:9
 pub change_rows-returns-in_err-change_row-clause-kept :
@@ -321,18 +347,18 @@ change_rows-rows-preserved g t c = (
         let rest : List TableItem = take (length left - 1) (drop 1 left) in
         let same : item ∷ rest ≡ left = first_of left item c.in-len1-up.len_at_least c.item-item.is in
         let new = pages.map c.change_row.new.pages in
-        let ran = since pages.below pages.tells pages.limits old mid (λ (n : ℕ). RowChanges room l (running_names c.rows.running.items) o c.args.table.now c.args.act.now (pages.map mid) new n item (Ok tt)) c.rows.invariant.1.kept
-        (λ told seen ch shows is each knows. c.in_ok-change_row.ensures.runs seen ch told shows is each knows) told in
-        let one = subst (λ (ns : List Name). RowChanges room l ns o c.args.table.now c.args.act.now (pages.map mid) new size item (Ok tt)) (ap running_names c.rows.invariant.0) ran in
+        let ran = since pages.below pages.tells pages.limits old mid (λ (n : ℕ). RowChanges room l (running_names c.rows.running.items) o c.args.table.now c.args.act.now (pages.map mid) new n c.rows.known item (Ok tt)) c.rows.invariant.1.kept
+        (λ told seen ch shows is each knows there. c.in_ok-change_row.ensures.runs seen ch told shows is each knows there) told in
+        let one = subst (λ (ns : List Name). RowChanges room l ns o c.args.table.now c.args.act.now (pages.map mid) new size c.rows.known item (Ok tt)) (ap running_names c.rows.invariant.0) ran in
         c.rows.invariant.1.decides told end result
-        (subst (λ (them : List TableItem). RowsChange room l names o c.args.table.now c.args.act.now (pages.map mid) end size them result) same
-        (rows_go room l names o (pages.map mid) new end size c.args.table.now c.args.act.now item rest result one others)));
+        (subst (λ (them : List TableItem). RowsChange room l names o c.args.table.now c.args.act.now (pages.map mid) end size (c.rows.known, them) result) same
+        (rows_go room l names o (pages.map mid) new end size c.args.table.now c.args.act.now c.rows.known item rest result one others)));
   },
 )
 
 -- src/running.rt:165:1
 pub change_rows-returns-clause-runs : goal.change_rows-returns-clause-runs
-change_rows-returns-clause-runs g t c = λ seen ch told shows is each knows.
+change_rows-returns-clause-runs g t c = λ seen ch told shows is each knows there.
     (let pages = g.P.Pages in
     let old = c.args.pages.now in
     let now = pages.map c.rows.pages in
@@ -342,7 +368,7 @@ change_rows-returns-clause-runs g t c = λ seen ch told shows is each knows.
     let names = running_names c.args.running.now.items in
     let o = c.args.outer in
     c.rows.invariant.1.decides told now (Ok tt)
-    (subst (λ (them : List TableItem). RowsChange room l names o c.args.table.now c.args.act.now now now size them (Ok tt)) (none_left c.rows.left.now c.in_default.len_below) (rows_done room l names o now size c.args.table.now c.args.act.now)) seen ch shows is each knows)
+    (subst (λ (them : List TableItem). RowsChange room l names o c.args.table.now c.args.act.now now now size (c.rows.known, them) (Ok tt)) (none_left c.rows.left.now c.in_default.len_below) (rows_done room l names o now size c.args.table.now c.args.act.now c.rows.known)) seen ch shows is each knows there)
 
 -- src/running.rt:165:1
 pub change_rows-returns-clause-running : goal.change_rows-returns-clause-running
@@ -680,8 +706,8 @@ fire_one-returns-clause-runs g t c = λ seen told shows knows db held.
     runs)
 
 -- src/running.rt:154:11
-pub run_change-returns-in_err-table-clause-runs : goal.run_change-returns-in_err-table-clause-runs
-run_change-returns-in_err-table-clause-runs g t c = λ seen told shows knows db held.
+pub run_bound-returns-in_err-table-clause-runs : goal.run_bound-returns-in_err-table-clause-runs
+run_bound-returns-in_err-table-clause-runs g t c = λ seen told shows knows named db held.
     (let pages = g.P.Pages in
     let old = c.args.pages.now in
     let size = (pages.limits (pages.below old)).page in
@@ -691,19 +717,19 @@ run_change-returns-in_err-table-clause-runs g t c = λ seen told shows knows db 
     let fire = fired (programs room) names in
     let e : Fault = c.in_err-table.field-0.0 in
     failed (pages.map c.work_of.new.pages) size l (change_with (programs room) names seen db c.args.change.now) c.from_residual.result e c.from_residual.ensures.1
-    (not_begun l seen c.args.change.now db (programs room) names e (c.in_err-table.ensures.found told db seen held shows knows)))
+    (not_begun l seen c.args.change.now db (programs room) names e (c.in_err-table.ensures.found told db seen held shows knows named)))
 
 -- src/running.rt:156:13
-pub run_change-change_rows-requires : goal.run_change-change_rows-requires
-run_change-change_rows-requires g t c κs within = search rules
+pub run_bound-change_rows-requires : goal.run_bound-change_rows-requires
+run_bound-change_rows-requires g t c κs within = search rules
 
 -- src/running.rt:159:13
-pub run_change-change_seen-requires : goal.run_change-change_seen-requires
-run_change-change_seen-requires g t c κs within = search rules
+pub run_bound-change_seen-requires : goal.run_bound-change_seen-requires
+run_bound-change_seen-requires g t c κs within = search rules
 
 -- src/running.rt:136:1
-pub run_change-returns-in-Table-clause-runs : goal.run_change-returns-in-Table-clause-runs
-run_change-returns-in-Table-clause-runs g t c = λ seen told shows knows db held.
+pub run_bound-returns-in-Table-clause-runs : goal.run_bound-returns-in-Table-clause-runs
+run_bound-returns-in-Table-clause-runs g t c = λ seen told shows knows named db held.
     (let pages = g.P.Pages in
     let old = c.args.pages.now in
     let size = (pages.limits (pages.below old)).page in
@@ -715,19 +741,20 @@ run_change-returns-in-Table-clause-runs g t c = λ seen told shows knows db held
     let mid = c.work_of.new.pages in
     let stays = c.in_ok-table.ensures.stays in
     let new = pages.map c.change_rows.new.pages in
-    let w = subst (λ (x : Work). IsWorkOf l seen ch db x) c.in-Table.is (c.in_ok-table.ensures.found told db seen held shows knows) in
+    let w = subst (λ (x : Work). IsWorkOf l seen ch db x) c.in-Table.is (c.in_ok-table.ensures.found told db seen held shows knows named) in
     let items = c.deref.ensures.value in
     let all : KnowsRows l ch = λ rows_at made of t f among row. c.programs_are_known.ensures.inherited made seen ch t f (knows rows_at made of) among row in
     let each = subst (AllByRecursion (IsItemOf ch c.in-Table.table.now c.in-Table.act)) (sym items) w.work.1 in
     let runs = after_reading pages.below pages.tells pages.limits pages.map old mid
-    (λ (m : PageMap) (n : ℕ). Runs m new n l (λ db. fold_answer (λ db i. row_changed fire seen ch c.in-Table.act i db) db c.deref.result.now) c.change_rows.result) stays.kept stays.same
-    (λ told. c.change_rows.ensures.runs seen ch told shows w.work.0 each all) told in
+    (λ (m : PageMap) (n : ℕ). IsRowOnPages m n l (aim_of ch).target c.in-Table.first → Runs m new n l (λ db. fold_answer (λ db i. row_changed fire seen ch c.in-Table.act i db) db c.deref.result.now) c.change_rows.result) stays.kept stays.same
+    (λ told there. c.change_rows.ensures.runs seen ch told shows w.work.0 each all there) told
+    (λ made at. (subst (λ (x : Work). IsWorkOf l seen ch made x) c.in-Table.is (c.in_ok-table.ensures.found told made seen at shows knows named)).first) in
     subst (λ (a : Answer Database). RunsTo new size l a c.change_rows.result) (sym (w.done (programs room) names))
     (subst (λ (is : List TableItem). RunsTo new size l (fold_answer (λ db i. row_changed fire seen ch c.in-Table.act i db) db is) c.change_rows.result) items (runs db held)))
 
 -- src/running.rt:136:1
-pub run_change-returns-in-View-clause-runs : goal.run_change-returns-in-View-clause-runs
-run_change-returns-in-View-clause-runs g t c = λ seen told shows knows db held.
+pub run_bound-returns-in-View-clause-runs : goal.run_bound-returns-in-View-clause-runs
+run_bound-returns-in-View-clause-runs g t c = λ seen told shows knows named db held.
     (let pages = g.P.Pages in
     let old = c.args.pages.now in
     let size = (pages.limits (pages.below old)).page in
@@ -739,7 +766,7 @@ run_change-returns-in-View-clause-runs g t c = λ seen told shows knows db held.
     let mid = c.work_of.new.pages in
     let stays = c.in_ok-table.ensures.stays in
     let new = pages.map c.change_seen.new.pages in
-    let w = subst (λ (x : Work). IsWorkOf l seen ch db x) c.in-View.is (c.in_ok-table.ensures.found told db seen held shows knows) in
+    let w = subst (λ (x : Work). IsWorkOf l seen ch db x) c.in-View.is (c.in_ok-table.ensures.found told db seen held shows knows named) in
     let items = c.deref-in-View.ensures.value in
     let all : KnowsRows l ch = λ rows_at made of t f among row. c.programs_are_known.ensures.inherited made seen ch t f (knows rows_at made of) among row in
     let each = subst (AllByRecursion (IsSeenOf ch)) (sym items) w.work.1 in
@@ -749,6 +776,38 @@ run_change-returns-in-View-clause-runs g t c = λ seen told shows knows db held.
     (λ told. c.change_seen.ensures.runs seen ch told shows w.work.0 each all) told in
     subst (λ (a : Answer Database). RunsTo new size l a c.change_seen.result) (sym (w.done (programs room) names))
     (subst (λ (is : List ViewItem). RunsTo new size l (fold_answer (λ db i. seen_changed fire seen ch cs c.in-View.act i db) db is) c.change_seen.result) items (runs db held)))
+
+-- src/running.rt:150:17
+pub run_change-returns-in_err-bound-clause-runs : goal.run_change-returns-in_err-bound-clause-runs
+run_change-returns-in_err-bound-clause-runs g t c = λ seen told shows knows db held.
+    (let pages = g.P.Pages in
+    let old = pages.map c.args.pages.now in
+    let size = (pages.limits (pages.below c.args.pages.now)).page in
+    let l = listed_in c.args.run.catalog.now in
+    let ch = c.args.change.now in
+    let e : Fault = c.in_err-bound.field-0.0 in
+    let why = same_outer c.args.outer.scope.now seen (λ (o : Outer). IsFaultOf (faults (resolve_change db o ch)) e) shows.scope
+    (c.in_err-bound.ensures.named held.rows_at db seen.rows (subst AreOuter (sym shows.scope) shows.known) held.of_listed) in
+    failed old size l (change_with (programs c.args.run.room) (running_names c.args.running.now.items) seen db ch) c.from_residual.result e c.from_residual.ensures.1
+    (inl (inl (only_memory db seen ch e (knows held.rows_at db held.of_listed) why))))
+
+-- src/running.rt:150:17
+pub run_change-returns-in_err-bound-clause-causes : goal.run_change-returns-in_err-bound-clause-causes
+run_change-returns-in_err-bound-clause-causes g t c =
+    (let pages = g.P.Pages in
+    let now = c.args.pages.now in
+    let e : Fault = c.in_err-bound.field-0.0 in
+    causes_none c.from_residual.result e (pages.failures now) (pages.failures now) (pages.count now ≡ (pages.limits (pages.below now)).most) c.from_residual.ensures.1 c.in_err-bound.ensures.not_disk (search rules) (search rules))
+
+-- src/running.rt:151:5
+pub run_change-run_bound-requires : goal.run_change-run_bound-requires
+run_change-run_bound-requires g t c κs within = search rules
+
+-- src/running.rt:135:1
+pub run_change-returns-clause-runs : goal.run_change-returns-clause-runs
+run_change-returns-clause-runs g t c = λ seen told shows knows.
+    c.run_bound.ensures.runs seen told shows knows
+    (record { named = λ rows_at db rows of. c.in_ok-bound.ensures.named rows_at db rows (subst AreOuter (sym shows.scope) shows.known) of; counted = c.in_ok-bound.ensures.counted })
 
 -- src/running.rt:103:5
 pub run_program-statements-init : goal.run_program-statements-init

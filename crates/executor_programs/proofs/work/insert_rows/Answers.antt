@@ -2,6 +2,8 @@ use Rattle.catalog.specs.Listed.{listed_in}
 use Rattle.sql_syntax.specs.declared.create.TriggerTime.TheVariants.{Before}
 use Rattle.trigger.specs.Effects.{given_rows}
 use Rattle.trigger_names.specs.Resolved.{bound_given}
+use Rattle.trigger.specs.Binding.{aim_of}
+use Rattle.executor_programs.proofs.Going.{none_there}
 use Rattle.executor_programs.proofs.Works.{fails_as, insert_refused, inserted, set_at, with_places}
 use Rattle.executor_programs.proofs.KnownGiven.{given_known}
 use Rattle.executor_programs.proofs.work.insert_rows.Goals as goal
@@ -19,4 +21,4 @@ returns-clause-found g c = λ change told tabled counted db seen stored shows kn
     (let l = listed_in c.args.catalog.now in
     let gives = c.in_ok-found.ensures.given db seen told stored shows (given_known db seen change _ _ c.args.rows known) in
     let h = inserted c.listed_tables_are_found.ensures.finds l seen change db _ _ stored c.args.table.now (record c.args.act { places = c.args.places; by_column = c.in_ok-act.field-0 }) (with_places l change Before c.args.act c.args.places c.in_ok-act.field-0 tabled.around) tabled.named c.args.rows known c.in_ok-found.found.items c.in_ok-items.items.items gives c.in_ok-items.ensures (set_at c.args.table.now c.in_ok-act.field-0.items c.deref.result.now c.args.places.items c.deref.ensures.value c.in_ok-act.ensures) (c.in_ok-found.ensures.wide _ counted) in
-    record { work = h.work; done = h.done })
+    record { work = h.work; first = none_there db (aim_of change).target; done = h.done })

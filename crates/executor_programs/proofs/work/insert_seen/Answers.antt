@@ -20,4 +20,4 @@ returns-clause-found g c = λ change told view some db seen stored shows known.
     (let l = listed_in c.args.catalog.now in
     let gives = c.in_ok-found.ensures.given db seen told stored shows (given_known db seen change _ _ c.args.rows known) in
     let h = put_in c.listed_tables_are_found.ensures.finds c.listed_tables_are_known.ensures l seen change db _ _ stored c.args.width (record c.args.act { places = c.args.places; by_column = c.args.act.by_column }) (record { around = (with_places l change InsteadOf c.args.act c.args.places c.args.act.by_column view.around); named = view.named; wide = view.wide }) some c.args.rows known c.in_ok-found.found.items c.in_ok-items.items.items gives c.in_ok-items.ensures in
-    record { work = h.work; done = h.done })
+    record { work = h.work; first = tt; done = h.done })

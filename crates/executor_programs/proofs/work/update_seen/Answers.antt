@@ -24,4 +24,4 @@ returns-clause-found g c = λ told view some db seen stored shows known.
     let name = c.target_of-name.result.now in
     let gives = chosen_at db seen c.args.change.now name c.target_of-name.ensures c.args.condition c.in_ok-found.found.items (c.in_ok-found.ensures.chosen db seen told stored shows (name_known db seen c.args.change.now name c.target_of-name.ensures (ap faults known))) in
     let h = set_done c.listed_tables_are_found.ensures.finds c.listed_tables_are_known.ensures l seen c.args.change.now db _ _ stored c.args.width (record c.args.act { sets = c.args.sets }) (record { around = (with_sets l c.args.change.now InsteadOf c.args.act c.args.sets view.around); named = view.named; wide = view.wide }) some c.args.condition known c.in_ok-found.found.items c.in_ok-items.items.items gives c.in_ok-items.ensures in
-    record { work = h.work; done = h.done })
+    record { work = h.work; first = tt; done = h.done })
