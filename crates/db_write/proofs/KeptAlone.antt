@@ -1,5 +1,5 @@
 -- What setting rows that are kept comes to: the indexes' trees have their entries as they stand.
-use Rattle.std.proofs.Common.{◌≡◌, inl, refl, sym, ap, subst, ◌∙◌, ◌&&◌, ◌||◌, ℕ, Bool, true, false, not, List, [], ◌∷◌, ◌++◌, map, slice_get, slice_index_or, IsTrue, Option, Some, Ok, Err, arith}
+use Rattle.std.proofs.Common.{◌≡◌, inl, refl, sym, ap, subst, ◌∙◌, ◌&&◌, ◌||◌, ℕ, Bool, true, false, not, List, [], ◌∷◌, ◌++◌, map, slice_get, slice_index_or, IsTrue, Option, None, Some, Ok, Err, arith}
 use Rattle.std.specs.Prelude.{IsErrAnd, MatchResult, Result, unwrap_or, ⊤}
 use Rattle.std.specs.Global.{Vec}
 use Rattle.std.specs.List.{AllByRecursion, list_any}
@@ -8,6 +8,7 @@ use Rattle.std.proofs.lemmas.Option.{unwrap_or-slice_get}
 use Rattle.sqlval.specs.Faults.{IsOutside}
 use Rattle.sqlval.specs.Lists.{sorted}
 use Rattle.sqlval.specs.PageSizes.{IsPageSize}
+use Rattle.sqlval.specs.Refusals.{Answer}
 use Rattle.sqlval.specs.declared.collation.Collation.{Collation}
 use Rattle.sqlval.specs.declared.fault.Fault.{Fault}
 use Rattle.sqlval.specs.declared.value.Value.{Value}
@@ -27,8 +28,10 @@ use Rattle.catalog.specs.declared.tables.TableRow as stored
 use Rattle.query_terms.specs.Terms.{Term}
 use Rattle.query_terms.specs.Values.{Row}
 use Rattle.row_scan.specs.Rows.{TableRow}
+use Rattle.row_scan.specs.Sources.{as_source}
 use Rattle.row_search.specs.Found.{HasIndexed}
 use Rattle.row_change.specs.Agreement.{has_unique}
+use Rattle.row_change.specs.Choosing.{chosen_or_all}
 use Rattle.row_change.specs.Demands.{is_alone}
 use Rattle.row_change.specs.Keeping.{HaveOneKey, IsAloneAmong, IsKept, KeepsAll, PutsKept, SetsKeptAsEach}
 use Rattle.row_change.specs.Meaning.{AreEnough}
@@ -43,7 +46,7 @@ use Rattle.index_entries.specs.Entries.{collations, entries_of_rows, indexed}
 use Rattle.index_entries.specs.Keeping.{columns_in, row_in}
 use Rattle.db_layout.specs.Trees.{AreAmong, IsEntriesTree, columns_of}
 use Rattle.db_write.specs.Changing.{AreUpdated, IsRefusedUpdate, UpdatesInTrees}
-use Rattle.db_write.specs.Kept.{AreAloneIn, AreSetAlone, FindsKept, SeeAlone, SeeApart}
+use Rattle.db_write.specs.Kept.{AreAloneIn, AreSetAlone, FindsKept, KeysRise, SeeAlone, SeeApart}
 use Rattle.db_write.specs.OneRow.{IsOneOf}
 use Rattle.db_write.specs.Reading.{LoadsEnough}
 use Rattle.db_write.specs.Turning.{HaveEntries, HaveNow, clashes_among, clashes_at}
@@ -52,6 +55,7 @@ use Rattle.db_write.proofs.Clashing as clashing
 use Rattle.db_write.proofs.Needed.{MeansRows, has_indexed, source}
 use Rattle.db_write.proofs.Owned.{RowsStand, fit_apart, indexes_stand, rows_among, table_holds}
 use Rattle.db_write.proofs.PutRows.{others_left}
+use Rattle.db_write.proofs.RisenKeys.{risen_alone}
 use Rattle.db_write.proofs.SeenApart.{some_alone}
 use Rattle.db_write.proofs.SetShuffles.{meant_are}
 use Rattle.db_write.proofs.TurnedRows.{Split, in_filter, split_at}
@@ -232,6 +236,18 @@ module _ (pages : PageMap) (size : ℕ) (table : Table) (c : Option Term) (sets 
         let among_rows = subst (AllByRecursion (λ row. IsOneOf row rows)) (chosen_known table sets c rows k.olds k.chosen).0 (in_filter (meant_by c) rows) in
         set_alone rows enough fit
         (all_alone table rows k.olds (fit_rows_rise (with_rows table rows) fit) among_rows (some_alone rows k.olds table.indexes among_rows (sees rows have.whole have.entries so))))
+
+    -- all rows are set, and their keys rise
+    pub finds_risen : c ≡ None → AllByRecursion (KeysRise found) table.indexes → Finds (Ok (Some changes))
+    finds_risen none rise schema before after rows sized is_root among fit enough =
+        (let k = keeps rows enough in
+        let among_rows = subst (AllByRecursion (λ row. IsOneOf row rows)) (chosen_known table sets c rows k.olds k.chosen).0 (in_filter (meant_by c) rows) in
+        let all : enough.some ≡ rows = ok_same enough.some rows (subst (λ (o : Option Term). chosen_or_all o enough.some ≡ chosen_or_all o rows) none enough.same) in
+        let risen = subst (λ (them : List Row). AllByRecursion (KeysRise them) table.indexes) (enough.are ∙ ap (map as_source) all) rise in
+        set_alone rows enough fit (all_alone table rows k.olds (fit_rows_rise (with_rows table rows) fit) among_rows (risen_alone rows k.olds table.indexes risen)))
+      where
+        ok_same : (x y : List TableRow) → ◌≡◌ {A = Answer (List TableRow)} (Ok x) (Ok y) → x ≡ y
+        ok_same x y e = cc
 
     module _ (meant : Vec stored.TableRow) (means : MeansRows c found (Ok meant)) where
       olds_are : (rows : List TableRow) (enough : AreEnough c found rows) → (keeps rows enough).olds ≡ map row_in meant.items

@@ -12,6 +12,7 @@ pub mod Needed
 mod OneRows
 mod Owned
 pub mod PutRows
+mod RisenKeys
 mod SetShuffles
 mod Shuffling
 mod Sides

@@ -1,10 +1,15 @@
 -- Rows that an UPDATE sets and that keep their rowids and keys, beside UNIQUE indexes (SQL As Understood By SQLite, "UPDATE"; "CREATE INDEX",
 -- "Unique Indexes").
-use Rattle.std.specs.Prelude.{◌≡◌, ℕ, Bool, true, false, IsTrue, IfSome, List, ◌∷◌, ◌++◌, Option, Result, MatchResult}
+use Rattle.std.specs.Prelude.{◌≡◌, ℕ, ⊤, Bool, true, false, IsTrue, IfSome, List, [], ◌∷◌, ◌++◌, map, slice_get, unwrap_or, Option, Result, MatchResult}
 use Rattle.std.specs.Global.{Vec}
 use Rattle.std.specs.List.{AllByRecursion, list_any}
+use Rattle.std.specs.declared.cmp.Ordering.TheVariants.{Less}
 use Rattle.sqlval.specs.Faults.{IsOutside}
+use Rattle.sqlval.specs.Order.{order}
 use Rattle.sqlval.specs.PageSizes.{IsPageSize}
+use Rattle.sqlval.specs.declared.collation.Collation.{Collation}
+use Rattle.sqlval.specs.declared.value.Value.{Value}
+use Rattle.sqlval.specs.declared.value.Value.TheVariants.{Null}
 use Rattle.sqlval.specs.declared.fault.Fault.{Fault}
 use Rattle.pages.specs.Map.{AreWhole, PageMap}
 use Rattle.tree_table.specs.declared.changing.RowChange.{RowChange}
@@ -12,6 +17,7 @@ use Rattle.db_layout.specs.Layout.{Owner}
 use Rattle.catalog.specs.Listed.{with_rows}
 use Rattle.catalog.specs.Rows.{are_rows}
 use Rattle.catalog.specs.declared.tables.Index.{Index}
+use Rattle.catalog.specs.declared.tables.IndexColumn.{IndexColumn}
 use Rattle.catalog.specs.declared.tables.Table.{Table}
 use Rattle.query_terms.specs.Terms.{Term}
 use Rattle.query_terms.specs.Values.{Row}
@@ -57,6 +63,25 @@ SeesApart pages size index result = (rows : List TableRow) → AreWhole size pag
 abbrev pub SeeApart : PageMap → ℕ → List Index → Result Bool Fault → Type 0
 SeeApart pages size indexes result = (rows : List TableRow) → AreWhole size pages → AllByRecursion (HasEntriesOf pages size rows) indexes
     → MatchResult result (λ apart. IsTrue apart → AllByRecursion (AreAloneIn rows rows) indexes) IsOutside
+
+-- the value in a row's column
+abbrev pub row_value : ℕ → Row → Value
+row_value place row = unwrap_or (slice_get row.values place) Null
+
+-- each of these values is less than the next
+abbrev pub ValuesRise : Collation → List Value → Type 0
+ValuesRise collation [] = ⊤
+ValuesRise collation (value ∷ []) = ⊤
+ValuesRise collation (value ∷ next ∷ values) = (order collation value next ≡ Less) × ValuesRise collation (next ∷ values)
+
+-- from row to row the values in the first of these columns rise
+abbrev pub FirstRises : List Row → List IndexColumn → Type 0
+FirstRises rows [] = ⊥
+FirstRises rows (column ∷ columns) = ValuesRise column.collation (map (row_value column.place) rows)
+
+-- and so those in the first column of the index, where it is UNIQUE
+abbrev pub KeysRise : List Row → Index → Type 0
+KeysRise rows index = index.is_unique ≡ true → FirstRises rows index.columns
 
 -- the rows that are set are kept, and these are their changes, and all rows are set as they become
 pub record AreSetAlone (table : Table) (sets : List (ℕ × Term)) (condition : Option Term) (rows : List TableRow) (changes : List RowChange) : Type 0 where

@@ -8,6 +8,7 @@ mod entries;
 mod inserting;
 mod making;
 mod reading;
+mod rising;
 mod row_entries;
 mod updating;
 

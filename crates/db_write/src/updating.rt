@@ -15,6 +15,7 @@ ghost use Rattle.db_write.specs.Turning.{MovesRowInIndexes};
 use crate::alone::{all_keys_are_apart, are_alone};
 use crate::entries::replace_in_indexes;
 use crate::reading::enough_rows;
+use crate::rising::keys_rise;
 use crate::row_entries::{has_unique, move_row_in_indexes, replace_row_in_indexes};
 use catalog::{Index, Table, TableRow};
 use pages::WritePages;
@@ -215,8 +216,8 @@ fn set_with_entries<P: WritePages>(
 const ROWS_A_LEAF: usize = 32;
 
 /// The changes of the table's tree by which SET's values come to its rows, where SET leaves the rowids and each row that is set is kept and, beside
-/// UNIQUE indexes, seen to be alone: where many are set, in reading each index from its beginning, and else, or where that doesn't show it, in
-/// looking for each of them. (What `kept_changes`, `all_keys_are_apart`, `meant_rows` and `are_alone` refuse.)
+/// UNIQUE indexes, seen to be alone: where all are set, by keys that rise from row to row; where many are, in reading each index from its beginning; and
+/// else, or where that doesn't show it, in looking for each of them. (What `kept_changes`, `all_keys_are_apart`, `meant_rows` and `are_alone` refuse.)
 fn changes_alone<P: WritePages>(
     alloc: Global,
     pages: &mut P,
@@ -238,6 +239,9 @@ fn changes_alone<P: WritePages>(
         return Ok(Some(changes));
     }
     let indexes = table.indexes.as_slice();
+    if condition.is_none() && keys_rise(indexes, rows.as_slice()) {
+        return Ok(Some(changes));
+    }
     if all_keys_are_apart(alloc, pages, indexes, changes.len() / ROWS_A_LEAF)? {
         return Ok(Some(changes));
     }

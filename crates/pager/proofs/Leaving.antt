@@ -7,7 +7,8 @@ use Rattle.pager.specs.declared.saved.Saved.{Saved}
 use Rattle.pager.specs.declared.saved.Mark.{Mark}
 use Rattle.pager.specs.Marks.{changes_at_each}
 use Rattle.pager.specs.Undo.{AreUpTo, IsKept, needed, newest_stamp, stays}
-use Rattle.pager.proofs.Undoing.{IsInFront, all_up_to, kept_take, mark_kept, state_kept, states_map, marks_map, states_taken, up_to_mark}
+use Rattle.pager.proofs.LeftOut.{IsInFront, mark_kept, state_kept}
+use Rattle.pager.proofs.Undoing.{all_up_to, kept_take, states_map, marks_map, states_taken, up_to_mark}
 
 -- ---- a whole log without them
 

@@ -4,9 +4,12 @@ pub mod Ends
 pub mod HeaderFronts
 pub mod Headers
 pub mod Leaving
+pub mod LeftOut
 pub mod Mapping
 pub mod PageReads
 pub mod PageWrites
+pub mod PartWrites
+pub mod PartsBack
 pub mod Placing
 pub mod Reheading
 pub mod Restoring

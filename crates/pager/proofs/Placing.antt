@@ -80,11 +80,11 @@ without_above last number [] lt are = refl
 without_above last number (p ∷ ps) lt are =
     if_false (p.number == number) (without number ps) (p ∷ without number ps) (differs p.number number (λ is. omega (arith, is, lt, are.0))) ∙ ap (λ qs. p ∷ qs) (without_above (p.number + 1) number ps (omega (arith, lt, are.0)) are.1)
 
-at_tail : (p : PageImage) (ps : List PageImage) (number i : ℕ) → IsAt (p ∷ ps) number (suc i) → IsAt ps number i
+pub at_tail : (p : PageImage) (ps : List PageImage) (number i : ℕ) → IsAt (p ∷ ps) number (suc i) → IsAt ps number i
 at_tail p ps number i at = record { within = omega (arith, at.within); number_is = λ d. at.number_is d }
 
 -- a page before the place has another number
-before_is_other : (last : ℕ) (p : PageImage) (ps : List PageImage) (number i : ℕ) → NumbersRise last (p ∷ ps) → IsAt (p ∷ ps) number (suc i) → p.number < number
+pub before_is_other : (last : ℕ) (p : PageImage) (ps : List PageImage) (number i : ℕ) → NumbersRise last (p ∷ ps) → IsAt (p ∷ ps) number (suc i) → p.number < number
 before_is_other last p ps number i are at = (let up = above (p.number + 1) ps are.1 i p (omega (arith, at.within)) in let is : number_at ps i p ≡ number = at.number_is p in omega (arith, up, is))
 
 pub set_swaps : (last : ℕ) (ps : List PageImage) (i : ℕ) (page : PageImage) → NumbersRise last ps → IsAt ps page.number i → set ps i page ≡ swapped page ps
@@ -119,10 +119,10 @@ set_rises last (p ∷ ps) (suc i) page are at = (are.0, set_rises (p.number + 1)
 
 -- ---- a page in its gap, and out again
 
-gap_tail : (p : PageImage) (ps : List PageImage) (number i : ℕ) → IsGapFor (p ∷ ps) number (suc i) → IsGapFor ps number i
+pub gap_tail : (p : PageImage) (ps : List PageImage) (number i : ℕ) → IsGapFor (p ∷ ps) number (suc i) → IsGapFor ps number i
 gap_tail p ps number i gap = record { within = omega (arith, gap.within); smaller = gap.smaller.1; greater = gap.greater }
 
-greater_rises : (last number : ℕ) (ps : List PageImage) → NumbersRise last ps → AllByRecursion (λ (p : PageImage). number < p.number) ps → NumbersRise (number + 1) ps
+pub greater_rises : (last number : ℕ) (ps : List PageImage) → NumbersRise last ps → AllByRecursion (λ (p : PageImage). number < p.number) ps → NumbersRise (number + 1) ps
 greater_rises last number [] are all = tt
 greater_rises last number (p ∷ ps) are all = (omega (arith, all.0), are.1)
 
@@ -225,7 +225,7 @@ stamps_out_gap last (p ∷ ps) (t ∷ ts) number (suc i) are even gap =
     let low : p.number < number = gap.smaller.0 in
     if_false (p.number == number) _ _ (differs p.number number (λ e. omega (arith, e, low))) ∙ ap (λ us. t ∷ us) (stamps_out_gap (p.number + 1) ps ts number i are.1 (omega (arith, even)) (gap_tail p ps number i gap))
 
-gap_in : (ps : List PageImage) (number : ℕ) (r : Result ℕ ℕ) → IfErr r (λ index. IsGapFor ps number index) → ((index : ℕ) → r ≡ Ok index → ⊥) → (index : ℕ) × IsGapFor ps number index
+pub gap_in : (ps : List PageImage) (number : ℕ) (r : Result ℕ ℕ) → IfErr r (λ index. IsGapFor ps number index) → ((index : ℕ) → r ≡ Ok index → ⊥) → (index : ℕ) × IsGapFor ps number index
 gap_in ps number (Ok index) gap other = absurd (other index refl)
 gap_in ps number (Err index) gap other = (index, gap)
 

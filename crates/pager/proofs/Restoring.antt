@@ -34,7 +34,7 @@ module _ (w : Vec ℕ Global) where
       ∙ ap (λ p. record { ptr = p; len = v.len; cap = v.cap; alloc = w.alloc; items = v.items; ok = v.ok; small = v.small }) ptr
       ∙ ap (λ a. record { ptr = v.ptr; len = v.len; cap = v.cap; alloc = a; items = v.items; ok = v.ok; small = v.small }) alloc
 
-same_image : (p r : PageImage) → r.number ≡ p.number → r.bytes.ptr ≡ p.bytes.ptr → r.bytes.cap ≡ p.bytes.cap → r.bytes.alloc ≡ p.bytes.alloc → r.bytes.items ≡ p.bytes.items → r ≡ p
+pub same_image : (p r : PageImage) → r.number ≡ p.number → r.bytes.ptr ≡ p.bytes.ptr → r.bytes.cap ≡ p.bytes.cap → r.bytes.alloc ≡ p.bytes.alloc → r.bytes.items ≡ p.bytes.items → r ≡ p
 same_image p r number ptr cap alloc items =
     ap (λ n. record { number = n; bytes = r.bytes }) number ∙ ap (λ (b : Vec ℕ Global). record { number = p.number; bytes = b }) (same_bytes r.bytes p.bytes ptr cap alloc items)
 

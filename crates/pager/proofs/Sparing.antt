@@ -5,7 +5,7 @@ use Rattle.std.specs.List.{AllByRecursion, insert}
 use Rattle.std.proofs.lemmas.Bool.Decides.{nat_tests}
 use Rattle.wal.specs.declared.pages.PageImage.{PageImage}
 use Rattle.pager.specs.declared.saved.Saved.{Saved}
-use Rattle.pager.specs.declared.saved.Saved.TheVariants.{Added, Changed}
+use Rattle.pager.specs.declared.saved.Saved.TheVariants.{Added, Changed, Part}
 use Rattle.pager.specs.declared.saved.Mark.{Mark}
 use Rattle.pager.specs.Undo.{AreMarks, IsKept, NumbersRise, needed, newest_stamp, older_than, stays, swapped_stamps, without_stamps}
 use Rattle.pager.proofs.Placing.{if_false, if_true, same_numbers, stamps_above}
@@ -79,6 +79,7 @@ older_without limit number (p ∷ ps) (t ∷ ts) = older_out limit t ts (without
 older_undone : (limit : ℕ) (e : Saved) (ps : List PageImage) (ts : List ℕ) → NumbersRise 0 ps → length ts ≡ length ps → older_than limit (stamps_undone e ps ts) ≤ older_than limit ts + 1
 older_undone limit (Added number) ps ts are even = (let le = older_without limit number ps ts in omega (arith, le))
 older_undone limit (Changed page t) ps ts are even = older_swapped limit 0 page.number t ps ts are even
+older_undone limit (Part number offset bytes) ps ts are even = omega arith
 
 -- ---- room
 
@@ -107,6 +108,13 @@ room_added limit most ts us es fs e i cap room le us_is fs_is =
     let stamps = ap (older_than limit) us_is in
     let long : length fs ≡ length es + 1 = ap length fs_is ∙ length-append es (e ∷ []) in
     omega (arith, room, less, most, stamps, long)
+
+-- a part more is saved, and no stamp changes
+pub room_part : (limit : ℕ) (ts : List ℕ) (es fs : List Saved) (e : Saved) (cap : ℕ) → length es + (length ts + 1) ≤ cap → fs ≡ es ++ e ∷ [] → older_than limit ts + length fs ≤ cap
+room_part limit ts es fs e cap room fs_is =
+    let most = older_most limit ts in
+    let long : length fs ≡ length es + 1 = ap length fs_is ∙ length-append es (e ∷ []) in
+    omega (arith, room, most, long)
 
 pub room_undone : (limit : ℕ) (ps : List PageImage) (ts us : List ℕ) (es fs : List Saved) (e : Saved) (cap : ℕ) → older_than limit ts + length fs ≤ cap → NumbersRise 0 ps → length ts ≡ length ps → us ≡ stamps_undone e ps ts → fs ≡ es ++ e ∷ [] → older_than limit us + length es ≤ cap
 room_undone limit ps ts us es fs e cap room are even us_is fs_is =

@@ -1,39 +1,47 @@
 -- What the log says of the pages at a mark stays as they change.
-use Rattle.std.proofs.Common.{◌≡◌, ◌⊎◌, inl, inr, ◌<◌, ◌≤◌, ◌==◌, ℕ, zero, suc, List, [], ◌∷◌, ◌++◌, length, take, drop, get_or, set, refl, sym, ◌∙◌, ap, subst, arith}
-use Rattle.std.specs.Prelude.{true, false, nat_lt, Bool, IfErr, IsTrue, OnOk, Result, Ok, Err, if◌then◌else◌, ◌+◌, ⊤}
+use Rattle.std.proofs.Common.{◌≡◌, ◌⊎◌, inl, inr, ◌<◌, ◌≤◌, ◌==◌, ℕ, zero, suc, List, [], ◌∷◌, ◌++◌, length, take, drop, get_or, set, refl, sym, ◌∙◌, ap, subst, arith, Vec}
+use Rattle.std.specs.Prelude.{true, false, nat_le, Bool, IfErr, IsTrue, OnOk, Result, Ok, Err, if◌then◌else◌, ◌+◌, ⊤}
 use Rattle.sqlval.specs.declared.fault.Fault.{Fault}
 use Rattle.sqlval.specs.declared.fault.Fault.TheVariants.{Memory}
 use Rattle.std.specs.List.{AllByRecursion, insert}
-use Rattle.std.proofs.lemmas.Bool.Decides.{nat_tests}
+use Rattle.std.specs.Vec.{with_items}
+use Rattle.std.specs.declared.alloc.Global.{Global}
 use Rattle.wal.specs.declared.pages.PageImage.{PageImage}
+use Rattle.pages.specs.Map.{written_over}
 use Rattle.pager.specs.declared.saved.Saved.{Saved}
-use Rattle.pager.specs.declared.saved.Saved.TheVariants.{Added, Changed}
+use Rattle.pager.specs.declared.saved.Saved.TheVariants.{Added, Changed, Part}
 use Rattle.pager.specs.declared.saved.Mark.{Mark}
 use Rattle.pager.specs.Writers.{IsAt, IsGapFor}
 use Rattle.pager.specs.Marks.{changes_at, changes_at_each}
-use Rattle.pager.specs.Undo.{AllBehind, AllSaved, AreMarks, AreUpTo, Beside, IsBefore, IsKept, IsMark, IsSince, IsStamped, IsUpTo, Link, Linked, NumbersRise, mentions, needed, newest_stamp, number_of, stays, swapped, swapped_stamps, undone, unwound, without, without_stamps}
+use Rattle.pager.specs.Undo.{AllBehind, AllSaved, AreMarks, AreUpTo, Beside, IsBefore, IsKept, IsMark, IsSince, IsStamped, IsUpTo, Link, Linked, NumbersRise, tells_page, mentions, newest_stamp, number_of, part_over, parts_over, swapped, swapped_stamps, undone, unwound, without, without_stamps}
 use Rattle.pager.proofs.Placing.{agrees, if_false, if_true, insert_back, insert_rises, same_numbers, set_back, set_rises}
 
 -- ---- mentions
 
-by_equal : (number : ℕ) (e : Saved) (es : List Saved) (t : Bool) → (number_of e == number) ≡ t → IsTrue (mentions number (e ∷ es)) → (number_of e ≡ number) ⊎ IsTrue (mentions number es)
-by_equal number e es true is m = inl (let h : (number_of e == number) ≡ true = is in grind (arith, nat_tests, h))
-by_equal number e es false is m = inr (sym (if_false (number_of e == number) true (mentions number es) is) ∙ m)
+by_equal : (number : ℕ) (e : Saved) (es : List Saved) (t : Bool) → tells_page number e ≡ t → IsTrue (mentions number (e ∷ es)) → IsTrue (tells_page number e) ⊎ IsTrue (mentions number es)
+by_equal number e es true is m = inl is
+by_equal number e es false is m = inr (sym (if_false (tells_page number e) true (mentions number es) is) ∙ m)
 
-pub mention_cases : (number : ℕ) (e : Saved) (es : List Saved) → IsTrue (mentions number (e ∷ es)) → (number_of e ≡ number) ⊎ IsTrue (mentions number es)
-mention_cases number e es m = by_equal number e es (number_of e == number) refl m
+pub mention_cases : (number : ℕ) (e : Saved) (es : List Saved) → IsTrue (mentions number (e ∷ es)) → IsTrue (tells_page number e) ⊎ IsTrue (mentions number es)
+mention_cases number e es m = by_equal number e es (tells_page number e) refl m
 
-pub mention_here : (number : ℕ) (e : Saved) (es : List Saved) → number_of e ≡ number → IsTrue (mentions number (e ∷ es))
-mention_here number e es is = if_true (number_of e == number) true (mentions number es) (agrees (number_of e) number is)
+pub mention_here : (number : ℕ) (e : Saved) (es : List Saved) → IsTrue (tells_page number e) → IsTrue (mentions number (e ∷ es))
+mention_here number e es is = if_true (tells_page number e) true (mentions number es) is
+
+-- what tells a whole page is of it
+pub whole_number : (number : ℕ) (e : Saved) → IsTrue (tells_page number e) → number_of e ≡ number
+whole_number number (Added other) is = same_numbers other number is
+whole_number number (Changed page t) is = same_numbers page.number number is
+whole_number number (Part other offset bytes) is = absurd cc
 
 either_true : (t u : Bool) → u ≡ true → (if t then true else u) ≡ true
 either_true true u is = refl
 either_true false u is = is
 
 pub mention_there : (number : ℕ) (e : Saved) (es : List Saved) → IsTrue (mentions number es) → IsTrue (mentions number (e ∷ es))
-mention_there number e es m = either_true (number_of e == number) (mentions number es) m
+mention_there number e es m = either_true (tells_page number e) (mentions number es) m
 
-pub mention_last : (number : ℕ) (es : List Saved) (e : Saved) → number_of e ≡ number → IsTrue (mentions number (es ++ e ∷ []))
+pub mention_last : (number : ℕ) (es : List Saved) (e : Saved) → IsTrue (tells_page number e) → IsTrue (mentions number (es ++ e ∷ []))
 mention_last number [] e is = mention_here number e [] is
 mention_last number (f ∷ es) e is = mention_there number f (es ++ e ∷ []) (mention_last number es e is)
 
@@ -41,7 +49,7 @@ pub mention_before : (number : ℕ) (es fs : List Saved) → IsTrue (mentions nu
 mention_before number [] fs m = absurd cc
 mention_before number (f ∷ es) fs m = elim (mention_cases number f es m) [ inl h ↦ mention_here number f (es ++ fs) h | inr r ↦ mention_there number f (es ++ fs) (mention_before number es fs r) ]
 
-pub mention_init : (number : ℕ) (es : List Saved) (e : Saved) → (number_of e ≡ number → ⊥) → IsTrue (mentions number (es ++ e ∷ [])) → IsTrue (mentions number es)
+pub mention_init : (number : ℕ) (es : List Saved) (e : Saved) → (IsTrue (tells_page number e) → ⊥) → IsTrue (mentions number (es ++ e ∷ [])) → IsTrue (mentions number es)
 mention_init number [] e other m = elim (mention_cases number e [] m) [ inl h ↦ absurd (other h) | inr r ↦ r ]
 mention_init number (f ∷ es) e other m = elim (mention_cases number f (es ++ e ∷ []) m) [ inl h ↦ mention_here number f es h | inr r ↦ mention_there number f es (mention_init number es e other r) ]
 
@@ -70,11 +78,12 @@ pile_to number (e ∷ es) seen m = elim (pile_to number es (e ∷ seen) m) [
 pub pile_none : (number : ℕ) (es : List Saved) → IsTrue (mentions number (pile es [])) → IsTrue (mentions number es)
 pile_none number es m = elim (pile_to number es [] m) [ inl h ↦ h | inr r ↦ absurd cc ]
 
-link_more : (stamp : ℕ) (seen others : List Saved) (e : Saved) → ((number : ℕ) → IsTrue (mentions number seen) → IsTrue (mentions number others)) → Link stamp seen e → Link stamp others e
+pub link_more : (stamp : ℕ) (seen others : List Saved) (e : Saved) → ((number : ℕ) → IsTrue (mentions number seen) → IsTrue (mentions number others)) → Link stamp seen e → Link stamp others e
 link_more stamp seen others (Added number) each link = tt
 link_more stamp seen others (Changed page t) each link = λ le. each page.number (link le)
+link_more stamp seen others (Part number offset bytes) each link = tt
 
-each_more : (e : Saved) (seen others : List Saved) → ((number : ℕ) → IsTrue (mentions number seen) → IsTrue (mentions number others)) → (number : ℕ) → IsTrue (mentions number (e ∷ seen)) → IsTrue (mentions number (e ∷ others))
+pub each_more : (e : Saved) (seen others : List Saved) → ((number : ℕ) → IsTrue (mentions number seen) → IsTrue (mentions number others)) → (number : ℕ) → IsTrue (mentions number (e ∷ seen)) → IsTrue (mentions number (e ∷ others))
 each_more e seen others each number m = elim (mention_cases number e seen m) [ inl h ↦ mention_here number e others h | inr r ↦ mention_there number e others (each number r) ]
 
 pub linked_snoc : (stamp : ℕ) (seen es : List Saved) (e : Saved) → Linked stamp seen es → Link stamp (pile es seen) e → Linked stamp seen (es ++ e ∷ [])
@@ -136,9 +145,34 @@ without_alike number other (p ∷ ps) [] are = absurd are
 without_alike number other (p ∷ ps) (q ∷ qs) are =
     without_cons number (p.number == other) (q.number == other) (ap (λ n. n == other) (same_number number p q are.0)) p q (without other ps) (without other qs) are.0 (without_alike number other ps qs are.1)
 
+-- a part of a page leaves its number
+pub part_number : (offset : ℕ) (bytes : List ℕ) (page : PageImage) → (part_over offset bytes page).number ≡ page.number
+part_number offset bytes page = by_test (nat_le (offset + length bytes) (length page.bytes.items)) refl
+  where
+    by_test : (t : Bool) → nat_le (offset + length bytes) (length page.bytes.items) ≡ t → (part_over offset bytes page).number ≡ page.number
+    by_test true is = ap (λ (q : PageImage). q.number) (if_true (nat_le (offset + length bytes) (length page.bytes.items)) (record { number = page.number; bytes = with_items page.bytes (written_over offset bytes page.bytes.items) }) page is)
+    by_test false is = ap (λ (q : PageImage). q.number) (if_false (nat_le (offset + length bytes) (length page.bytes.items)) (record { number = page.number; bytes = with_items page.bytes (written_over offset bytes page.bytes.items) }) page is)
+
+part_if : (b : Bool) (offset : ℕ) (bytes : List ℕ) (page : PageImage) → (if b then part_over offset bytes page else page).number ≡ page.number
+part_if true offset bytes page = part_number offset bytes page
+part_if false offset bytes page = refl
+
+parts_alike : (number other offset : ℕ) (bytes : List ℕ) (ps qs : List PageImage) → Alike number ps qs → Alike number (parts_over other offset bytes ps) (parts_over other offset bytes qs)
+parts_alike number other offset bytes [] [] are = tt
+parts_alike number other offset bytes [] (q ∷ qs) are = absurd are
+parts_alike number other offset bytes (p ∷ ps) [] are = absurd are
+parts_alike number other offset bytes (p ∷ ps) (q ∷ qs) are = (
+  elim are.0 [
+    | inl same ↦ inl (ap (λ (x : PageImage). if x.number == other then part_over offset bytes x else x) same)
+    | inr both ↦ inr (part_if (p.number == other) offset bytes p ∙ both.0, part_if (q.number == other) offset bytes q ∙ both.1)
+  ],
+  parts_alike number other offset bytes ps qs are.1,
+)
+
 undone_alike : (number : ℕ) (e : Saved) (ps qs : List PageImage) → Alike number ps qs → Alike number (undone e ps) (undone e qs)
 undone_alike number (Added other) ps qs are = without_alike number other ps qs are
 undone_alike number (Changed page t) ps qs are = swapped_alike number page ps qs are
+undone_alike number (Part other offset bytes) ps qs are = parts_alike number other offset bytes.items ps qs are
 
 unwound_alike : (number : ℕ) (es : List Saved) (ps qs : List PageImage) → Alike number ps qs → Alike number (unwound es ps) (unwound es qs)
 unwound_alike number [] ps qs are = are
@@ -167,9 +201,10 @@ without_meets number other (p ∷ ps) (q ∷ qs) is are =
       | inr both ↦ if_true (p.number == other) _ _ (agrees p.number other (both.0 ∙ sym is)) ∙ rest ∙ sym (if_true (q.number == other) _ _ (agrees q.number other (both.1 ∙ sym is)))
     ]
 
-undone_meets : (number : ℕ) (e : Saved) (ps qs : List PageImage) → number_of e ≡ number → Alike number ps qs → undone e ps ≡ undone e qs
-undone_meets number (Added other) ps qs is are = without_meets number other ps qs is are
-undone_meets number (Changed page t) ps qs is are = swapped_meets number page ps qs is are
+undone_meets : (number : ℕ) (e : Saved) (ps qs : List PageImage) → IsTrue (tells_page number e) → Alike number ps qs → undone e ps ≡ undone e qs
+undone_meets number (Added other) ps qs is are = without_meets number other ps qs (same_numbers other number is) are
+undone_meets number (Changed page t) ps qs is are = swapped_meets number page ps qs (same_numbers page.number number is) are
+undone_meets number (Part other offset bytes) ps qs is are = absurd cc
 
 pub unwound_meets : (number : ℕ) (es : List Saved) (ps qs : List PageImage) → IsTrue (mentions number es) → Alike number ps qs → unwound es ps ≡ unwound es qs
 unwound_meets number [] ps qs m are = absurd cc
@@ -299,7 +334,7 @@ mark_save es ps ts i page old t most m at old_is t_is is =
       omega (arith, le, long),
       (
         subst (λ fs. Beside (IsSince m.stamp fs) (set ps i page) (set ts i most)) (sym (drop_snoc m.saved es (Changed old t) le))
-            (beside_set (IsSince m.stamp (drop m.saved es)) (IsSince m.stamp (drop m.saved es ++ Changed old t ∷ [])) (λ p u q. since_more m.stamp (drop m.saved es) (Changed old t) p u q) ps ts i page most (λ young. mention_last page.number (drop m.saved es) (Changed old t) same) is.1.0),
+            (beside_set (IsSince m.stamp (drop m.saved es)) (IsSince m.stamp (drop m.saved es ++ Changed old t ∷ [])) (λ p u q. since_more m.stamp (drop m.saved es) (Changed old t) p u q) ps ts i page most (λ young. mention_last page.number (drop m.saved es) (Changed old t) (agrees old.number page.number same)) is.1.0),
         subst (Linked m.stamp []) (sym (drop_snoc m.saved es (Changed old t) le)) (linked_snoc m.stamp [] (drop m.saved es) (Changed old t) is.1.1 link),
       ),
     )
@@ -312,8 +347,22 @@ mark_add es ps ts i page most m is =
       omega (arith, le, long),
       (
         subst (λ fs. Beside (IsSince m.stamp fs) (insert ps i page) (insert ts i most)) (sym (drop_snoc m.saved es (Added page.number) le))
-            (beside_insert (IsSince m.stamp (drop m.saved es)) (IsSince m.stamp (drop m.saved es ++ Added page.number ∷ [])) (λ p u q. since_more m.stamp (drop m.saved es) (Added page.number) p u q) ps ts i page most (λ young. mention_last page.number (drop m.saved es) (Added page.number) refl) is.1.0),
+            (beside_insert (IsSince m.stamp (drop m.saved es)) (IsSince m.stamp (drop m.saved es ++ Added page.number ∷ [])) (λ p u q. since_more m.stamp (drop m.saved es) (Added page.number) p u q) ps ts i page most (λ young. mention_last page.number (drop m.saved es) (Added page.number) (agrees page.number page.number refl)) is.1.0),
         subst (Linked m.stamp []) (sym (drop_snoc m.saved es (Added page.number) le)) (linked_snoc m.stamp [] (drop m.saved es) (Added page.number) is.1.1 tt),
+      ),
+    )
+
+-- a part of it is
+pub mark_part : (es : List Saved) (e : Saved) (ps : List PageImage) (ts : List ℕ) (i : ℕ) (page : PageImage) (m : Mark) → ((stamp : ℕ) (seen : List Saved) → Link stamp seen e) → IsAt ps page.number i → IsMark es ps ts m → IsMark (es ++ e ∷ []) (set ps i page) ts m
+mark_part es e ps ts i page m link at is =
+    let long = length_snoc es e in
+    let le = is.0 in (
+      omega (arith, le, long),
+      (
+        subst (λ fs. Beside (IsSince m.stamp fs) (set ps i page) ts) (sym (drop_snoc m.saved es e le))
+            (beside_over (IsSince m.stamp (drop m.saved es ++ e ∷ [])) ps ts i page at (λ p t same q young. subst (λ n. IsTrue (mentions n (drop m.saved es ++ e ∷ []))) same (q young))
+            (beside_map (IsSince m.stamp (drop m.saved es)) (IsSince m.stamp (drop m.saved es ++ e ∷ [])) (λ p u q. since_more m.stamp (drop m.saved es) e p u q) ps ts is.1.0)),
+        subst (Linked m.stamp []) (sym (drop_snoc m.saved es e le)) (linked_snoc m.stamp [] (drop m.saved es) e is.1.1 (link m.stamp (pile (drop m.saved es) []))),
       ),
     )
 
@@ -321,15 +370,28 @@ mark_add es ps ts i page most m is =
 abbrev pub stamps_undone : Saved → List PageImage → List ℕ → List ℕ
 stamps_undone (Added number) ps ts = without_stamps number ps ts
 stamps_undone (Changed page t) ps ts = swapped_stamps page.number t ps ts
+stamps_undone (Part number offset bytes) ps ts = ts
 
 since_init : (stamp : ℕ) (es : List Saved) (e : Saved) (p : PageImage) (t : ℕ) → (p.number ≡ number_of e → ⊥) → IsSince stamp (es ++ e ∷ []) p t → IsSince stamp es p t
-since_init stamp es e p t other is le = mention_init p.number es e (λ same. other (sym same)) (is le)
+since_init stamp es e p t other is le = mention_init p.number es e (λ same. other (sym (whole_number p.number e same))) (is le)
+
+beside_parts : (Q R : PageImage → ℕ → Type 0) (number offset : ℕ) (bytes : List ℕ) → ((p q : PageImage) (t : ℕ) → q.number ≡ p.number → Q p t → R q t) → (ps : List PageImage) (ts : List ℕ) → Beside Q ps ts → Beside R (parts_over number offset bytes ps) ts
+beside_parts Q R number offset bytes each [] [] all = tt
+beside_parts Q R number offset bytes each [] (t ∷ ts) all = absurd all
+beside_parts Q R number offset bytes each (p ∷ ps) [] all = absurd all
+beside_parts Q R number offset bytes each (p ∷ ps) (t ∷ ts) all =
+    (each p (if p.number == number then part_over offset bytes p else p) t (part_if (p.number == number) offset bytes p) all.0, beside_parts Q R number offset bytes each ps ts all.1)
+
+since_part : (stamp : ℕ) (es : List Saved) (number offset : ℕ) (bytes : Vec ℕ Global) (p q : PageImage) (t : ℕ) → q.number ≡ p.number → IsSince stamp (es ++ Part number offset bytes ∷ []) p t → IsSince stamp es q t
+since_part stamp es number offset bytes p q t same is young = subst (λ n. IsTrue (mentions n es)) (sym same) (mention_init p.number es (Part number offset bytes) (λ whole. absurd cc) (is young))
 
 beside_undone : (stamp : ℕ) (es : List Saved) (e : Saved) (ps : List PageImage) (ts : List ℕ) → Link stamp (pile es []) e → Beside (IsSince stamp (es ++ e ∷ [])) ps ts → Beside (IsSince stamp es) (undone e ps) (stamps_undone e ps ts)
 beside_undone stamp es (Added number) ps ts link all =
     beside_without (IsSince stamp (es ++ Added number ∷ [])) (IsSince stamp es) number (since_init stamp es (Added number)) ps ts all
 beside_undone stamp es (Changed page t) ps ts link all =
     beside_swapped (IsSince stamp (es ++ Changed page t ∷ [])) (IsSince stamp es) page t (since_init stamp es (Changed page t)) (λ young. pile_none page.number es (link young)) ps ts all
+beside_undone stamp es (Part number offset bytes) ps ts link all =
+    beside_parts (IsSince stamp (es ++ Part number offset bytes ∷ [])) (IsSince stamp es) number offset bytes.items (since_part stamp es number offset bytes) ps ts all
 
 pub mark_undo : (es : List Saved) (e : Saved) (ps : List PageImage) (ts : List ℕ) (m : Mark) → m.saved ≤ length es → IsMark (es ++ e ∷ []) ps ts m → IsMark es (undone e ps) (stamps_undone e ps ts) m
 mark_undo es e ps ts m le is =
@@ -440,6 +502,26 @@ states_add most es fs ps qs ts ms i page is gap fs_is qs_is =
     ap (λ gs. changes_at_each gs qs ms) fs_is ∙ ap (λ rs. changes_at_each (es ++ Added page.number ∷ []) rs ms) qs_is ∙
     states_map (λ (m : Mark). ⊤) most es (es ++ Added page.number ∷ []) ps (insert ps i page) ts (λ m here mark. state_push es (Added page.number) ps (insert ps i page) m mark.0 (insert_back 0 ps i page is.0 gap)) ms (any ms) is.1.1.1
 
+-- a part of a page was written over, and what stood there is saved
+pub kept_part : (most : ℕ) (es fs : List Saved) (e : Saved) (ps qs : List PageImage) (ts : List ℕ) (ms : List Mark) (i : ℕ) (page : PageImage) → IsKept most es ps ts ms → ((stamp : ℕ) (seen : List Saved) → Link stamp seen e) → IsUpTo most e → IsAt ps page.number i
+    → fs ≡ es ++ e ∷ [] → qs ≡ set ps i page → IsKept most fs qs ts ms
+kept_part most es fs e ps qs ts ms i page is link up at fs_is qs_is =
+    subst (λ gs. IsKept most gs qs ts ms) (sym fs_is) (subst (λ rs. IsKept most (es ++ e ∷ []) rs ts ms) (sym qs_is) (
+      set_rises 0 ps i page is.0 at,
+      (
+        beside_over (IsStamped most) ps ts i page at (λ p t same q. q) is.1.0,
+        (
+          up_to_snoc most es e up is.1.1.0,
+          marks_map (λ (m : Mark). ⊤) most most es (es ++ e ∷ []) ps (set ps i page) ts ts (omega arith) (λ m here mark. mark_part es e ps ts i page m link at mark) ms (any ms) is.1.1.1,
+        ),
+      ),
+    ))
+
+pub states_part : (most : ℕ) (es fs : List Saved) (e : Saved) (ps qs : List PageImage) (ts : List ℕ) (ms : List Mark) → IsKept most es ps ts ms → fs ≡ es ++ e ∷ [] → undone e qs ≡ ps → changes_at_each fs qs ms ≡ changes_at_each es ps ms
+states_part most es fs e ps qs ts ms is fs_is back =
+    ap (λ gs. changes_at_each gs qs ms) fs_is ∙
+    states_map (λ (m : Mark). ⊤) most es (es ++ e ∷ []) ps qs ts (λ m here mark. state_push es e ps qs m mark.0 back) ms (any ms) is.1.1.1
+
 rises_more : (low last : ℕ) (ps : List PageImage) → low ≤ last → NumbersRise last ps → NumbersRise low ps
 rises_more low last [] le are = tt
 rises_more low last (p ∷ ps) le are = (let up = are.0 in omega (arith, le, up), are.1)
@@ -462,13 +544,21 @@ without_rises : (last number : ℕ) (ps : List PageImage) → NumbersRise last p
 without_rises last number [] are = tt
 without_rises last number (p ∷ ps) are = out_rises (p.number == number) last p (without number ps) are.0 (without_rises (p.number + 1) number ps are.1)
 
+parts_rises : (last number offset : ℕ) (bytes : List ℕ) (ps : List PageImage) → NumbersRise last ps → NumbersRise last (parts_over number offset bytes ps)
+parts_rises last number offset bytes [] are = tt
+parts_rises last number offset bytes (p ∷ ps) are =
+    let same = sym (part_if (p.number == number) offset bytes p) in
+    (subst (λ n. last ≤ n) same are.0, subst (λ n. NumbersRise (n + 1) (parts_over number offset bytes ps)) same (parts_rises (p.number + 1) number offset bytes ps are.1))
+
 undone_rises : (e : Saved) (ps : List PageImage) → NumbersRise 0 ps → NumbersRise 0 (undone e ps)
 undone_rises (Added number) ps are = without_rises 0 number ps are
 undone_rises (Changed page t) ps are = swapped_rises 0 page ps are
+undone_rises (Part number offset bytes) ps are = parts_rises 0 number offset bytes.items ps are
 
 undone_stamped : (most : ℕ) (e : Saved) (ps : List PageImage) (ts : List ℕ) → IsUpTo most e → Beside (IsStamped most) ps ts → Beside (IsStamped most) (undone e ps) (stamps_undone e ps ts)
 undone_stamped most (Added number) ps ts is all = beside_without (IsStamped most) (IsStamped most) number (λ p t other q. q) ps ts all
 undone_stamped most (Changed page t) ps ts is all = beside_swapped (IsStamped most) (IsStamped most) page t (λ p u other q. q) is ps ts all
+undone_stamped most (Part number offset bytes) ps ts is all = beside_parts (IsStamped most) (IsStamped most) number offset bytes.items (λ p q t same le. le) ps ts all
 
 saved_init : (es : List Saved) (e : Saved) (m : Mark) → m.saved < length (es ++ e ∷ []) → m.saved ≤ length es
 saved_init es e m lt = (let long = length_snoc es e in omega (arith, lt, long))
@@ -521,6 +611,7 @@ up_to_more : (most : ℕ) (es : List Saved) → AreUpTo most es → AreUpTo (mos
 up_to_more most [] all = tt
 up_to_more most (Added number ∷ es) all = (tt, up_to_more most es all.1)
 up_to_more most (Changed page t ∷ es) all = (let up = all.0 in omega (arith, up), up_to_more most es all.1)
+up_to_more most (Part number offset bytes ∷ es) all = (tt, up_to_more most es all.1)
 
 pub kept_mark : (most more : ℕ) (es : List Saved) (ps : List PageImage) (ts : List ℕ) (ms ns : List Mark) (n : Mark) → IsKept most es ps ts ms → more ≡ most + 1 → n.saved ≡ length es → n.stamp ≡ more → ns ≡ ms ++ n ∷ [] → IsKept more es ps ts ns
 kept_mark most more es ps ts ms ns n is more_is saved_is stamp_is ns_is =
@@ -601,127 +692,6 @@ kept_taken most es ps ts ms ns k is ns_is = subst (IsKept most es ps ts) (sym ns
 
 pub states_taken : (es : List Saved) (ps : List PageImage) (ms ns : List Mark) (k : ℕ) → ns ≡ take k ms → changes_at_each es ps ns ≡ take k (changes_at_each es ps ms)
 states_taken es ps ms ns k ns_is = ap (changes_at_each es ps) ns_is ∙ states_take es ps ms k
-
--- ---- what doesn't have to stay is left out
-
-swapped_self : (page : PageImage) (ps : List PageImage) → Alike page.number (swapped page ps) ps
-swapped_self page [] = tt
-swapped_self page (p ∷ ps) = (self_test (p.number == page.number) refl, swapped_self page ps)
-  where
-    self_test : (b : Bool) → (p.number == page.number) ≡ b → ((if p.number == page.number then page else p) ≡ p) ⊎ (((if p.number == page.number then page else p).number ≡ page.number) × (p.number ≡ page.number))
-    self_test true is = inr (ap (λ (q : PageImage). q.number) (if_true (p.number == page.number) page p is), same_numbers p.number page.number is)
-    self_test false is = inl (if_false (p.number == page.number) page p is)
-
--- what is left out was as young as the mark, so an older image of it is there
-abbrev IsAlso : List Saved → List Saved → Type 0
-IsAlso es fs = (number : ℕ) → IsTrue (mentions number es) → IsTrue (mentions number fs)
-
-also_snoc : (e : Saved) (seen es : List Saved) → IsAlso seen es → IsAlso (e ∷ seen) (es ++ e ∷ [])
-also_snoc e seen es also number m = elim (mention_cases number e seen m) [ inl h ↦ mention_last number es e h | inr r ↦ mention_before number es (e ∷ []) (also number r) ]
-
-mention_parts : (number : ℕ) (es fs : List Saved) → IsTrue (mentions number (es ++ fs)) → IsTrue (mentions number es) ⊎ IsTrue (mentions number fs)
-mention_parts number [] fs m = inr m
-mention_parts number (e ∷ es) fs m = elim (mention_cases number e (es ++ fs) m) [
-  | inl h ↦ inl (mention_here number e es h)
-  | inr r ↦ (elim (mention_parts number es fs r) [ inl h ↦ inl (mention_there number e es h) | inr s ↦ inr s ])
-]
-
-mention_behind : (number : ℕ) (es fs : List Saved) → IsTrue (mentions number fs) → IsTrue (mentions number (es ++ fs))
-mention_behind number [] fs m = m
-mention_behind number (e ∷ es) fs m = mention_there number e (es ++ fs) (mention_behind number es fs m)
-
-mention_other : (number : ℕ) (before : List Saved) (e : Saved) (es : List Saved) → IsTrue (mentions (number_of e) before) → IsTrue (mentions number (before ++ e ∷ es)) → IsTrue (mentions number (before ++ es))
-mention_other number before e es there m = elim (mention_parts number before (e ∷ es) m) [
-  | inl h ↦ mention_before number before es h
-  | inr r ↦ (elim (mention_cases number e es r) [ inl h ↦ mention_before number before es (subst (λ n. IsTrue (mentions n before)) h there) | inr s ↦ mention_behind number before es s ])
-]
-
-append_one : (es : List Saved) (e : Saved) (fs : List Saved) → (es ++ e ∷ []) ++ fs ≡ es ++ e ∷ fs
-append_one [] e fs = refl
-append_one (g ∷ es) e fs = ap (λ gs. g ∷ gs) (append_one es e fs)
-
--- whatever follows from it for one that stays and for one that is left out
-left_cases : (P : List Saved → Type 0) (b : Bool) (e : Saved) (es : List Saved) → (b ≡ true → P (e ∷ es)) → (b ≡ false → P es) → P (if b then e ∷ es else es)
-left_cases P true e es here out = here refl
-left_cases P false e es here out = out refl
-
--- one that is left out
-left_out_is : (stamp limit : ℕ) (seen es : List Saved) (e : Saved) → stamp ≤ limit → stays limit e ≡ false → Link stamp seen e → IsAlso seen es → IsTrue (mentions (number_of e) es) × ((ps : List PageImage) → Alike (number_of e) (undone e ps) ps)
-left_out_is stamp limit seen es (Added number) le out link also = absurd cc
-left_out_is stamp limit seen es (Changed page t) le out link also =
-    (also page.number (link (let old : nat_lt t limit ≡ false = out in grind (arith, nat_tests, old, le))), swapped_self page)
-
-also_out : (e : Saved) (seen es : List Saved) → IsTrue (mentions (number_of e) es) → IsAlso seen es → IsAlso (e ∷ seen) es
-also_out e seen es there also number m = elim (mention_cases number e seen m) [ inl h ↦ subst (λ n. IsTrue (mentions n es)) h there | inr r ↦ also number r ]
-
-pub unwound_kept : (stamp limit : ℕ) (seen before es : List Saved) (ps : List PageImage) → stamp ≤ limit → IsAlso seen before → Linked stamp seen es → unwound (before ++ needed limit es) ps ≡ unwound (before ++ es) ps
-unwound_kept stamp limit seen before [] ps le also links = refl
-unwound_kept stamp limit seen before (e ∷ es) ps le also links =
-    left_cases (λ gs. unwound (before ++ gs) ps ≡ unwound (before ++ e ∷ es) ps) (stays limit e) e (needed limit es)
-    (λ here. ap (λ gs. unwound gs ps) (sym (append_one before e (needed limit es))) ∙ unwound_kept stamp limit (e ∷ seen) (before ++ e ∷ []) es ps le (also_snoc e seen before also) links.1 ∙ ap (λ gs. unwound gs ps) (append_one before e es))
-    (λ out. (let left = left_out_is stamp limit seen before e le out links.0 also in
-    unwound_kept stamp limit (e ∷ seen) before es ps le (also_out e seen before left.0 also) links.1
-    ∙ (unwound_append before es ps ∙ (sym (unwound_meets (number_of e) before (undone e (unwound es ps)) (unwound es ps) left.0 (left.1 (unwound es ps))) ∙ sym (unwound_append before (e ∷ es) ps)))))
-
-pub mentions_kept : (stamp limit : ℕ) (seen before es : List Saved) → stamp ≤ limit → IsAlso seen before → Linked stamp seen es → IsAlso (before ++ es) (before ++ needed limit es)
-mentions_kept stamp limit seen before [] le also links number m = m
-mentions_kept stamp limit seen before (e ∷ es) le also links number m =
-    left_cases (λ gs. IsTrue (mentions number (before ++ gs))) (stays limit e) e (needed limit es)
-    (λ here. subst (λ gs. IsTrue (mentions number gs)) (append_one before e (needed limit es)) (mentions_kept stamp limit (e ∷ seen) (before ++ e ∷ []) es le (also_snoc e seen before also) links.1 number (subst (λ gs. IsTrue (mentions number gs)) (sym (append_one before e es)) m)))
-    (λ out. (let left = left_out_is stamp limit seen before e le out links.0 also in
-    mentions_kept stamp limit (e ∷ seen) before es le (also_out e seen before left.0 also) links.1 number (mention_other number before e es left.0 m)))
-
-pub linked_kept : (stamp limit : ℕ) (seen others es : List Saved) → stamp ≤ limit → IsAlso seen others → Linked stamp seen es → Linked stamp others (needed limit es)
-linked_kept stamp limit seen others [] le also links = tt
-linked_kept stamp limit seen others (e ∷ es) le also links =
-    left_cases (Linked stamp others) (stays limit e) e (needed limit es)
-    (λ here. (link_more stamp seen others e also links.0, linked_kept stamp limit (e ∷ seen) (e ∷ others) es le (each_more e seen others also) links.1))
-    (λ out. (let left = left_out_is stamp limit seen others e le out links.0 also in linked_kept stamp limit (e ∷ seen) others es le (also_out e seen others left.0 also) links.1))
-
-linked_parts : (stamp : ℕ) (seen before es : List Saved) → Linked stamp seen (before ++ es) → Linked stamp seen before × Linked stamp (pile before seen) es
-linked_parts stamp seen [] es links = (tt, links)
-linked_parts stamp seen (e ∷ before) es links = (let rest = linked_parts stamp (e ∷ seen) before es links.1 in ((links.0, rest.0), rest.1))
-
-linked_join : (stamp : ℕ) (seen before es : List Saved) → Linked stamp seen before → Linked stamp (pile before seen) es → Linked stamp seen (before ++ es)
-linked_join stamp seen [] es first rest = rest
-linked_join stamp seen (e ∷ before) es first rest = (first.0, linked_join stamp (e ∷ seen) before es first.1 rest)
-
-drop_front : (k : ℕ) (es fs : List Saved) → k ≤ length es → drop k (es ++ fs) ≡ drop k es ++ fs
-drop_front zero es fs le = refl
-drop_front (suc k) [] fs le = absurd (omega (arith, le))
-drop_front (suc k) (e ∷ es) fs le = drop_front k es fs (omega (arith, le))
-
-length_front : (es fs : List Saved) → length es ≤ length (es ++ fs)
-length_front [] fs = omega arith
-length_front (e ∷ es) fs = (let h = length_front es fs in omega (arith, h))
-
--- a mark with no more saved before it than the front, and no younger than the limit
-abbrev pub IsInFront : List Saved → ℕ → Mark → Type 0
-IsInFront front limit m = (m.saved ≤ length front) × (m.stamp ≤ limit)
-
-pub mark_kept : (limit : ℕ) (front es : List Saved) (ps : List PageImage) (ts : List ℕ) (m : Mark) → IsInFront front limit m → IsMark (front ++ es) ps ts m → IsMark (front ++ needed limit es) ps ts m
-mark_kept limit front es ps ts m fits is =
-    let le = fits.0 in
-    let d = drop m.saved front in
-    let long = length_front front (needed limit es) in
-    let links = linked_parts m.stamp [] d es (subst (Linked m.stamp []) (drop_front m.saved front es le) is.1.1) in
-    let all = subst (λ fs. Beside (IsSince m.stamp fs) ps ts) (drop_front m.saved front es le) is.1.0 in
-    let also : IsAlso (pile d []) d = λ number m. pile_none number d m in (
-      omega (arith, le, long),
-      (
-        subst (λ fs. Beside (IsSince m.stamp fs) ps ts) (sym (drop_front m.saved front (needed limit es) le))
-            (beside_map (IsSince m.stamp (d ++ es)) (IsSince m.stamp (d ++ needed limit es)) (λ p t q young. mentions_kept m.stamp limit (pile d []) d es fits.1 also links.1 p.number (q young)) ps ts all),
-        subst (Linked m.stamp []) (sym (drop_front m.saved front (needed limit es) le)) (linked_join m.stamp [] d (needed limit es) links.0 (linked_kept m.stamp limit (pile d []) (pile d []) es fits.1 (λ number m. m) links.1)),
-      ),
-    )
-
-pub state_kept : (limit : ℕ) (front es : List Saved) (ps : List PageImage) (ts : List ℕ) (m : Mark) → IsInFront front limit m → IsMark (front ++ es) ps ts m → changes_at (front ++ needed limit es) ps m ≡ changes_at (front ++ es) ps m
-state_kept limit front es ps ts m fits is =
-    let le = fits.0 in
-    let d = drop m.saved front in
-    let links = linked_parts m.stamp [] d es (subst (Linked m.stamp []) (drop_front m.saved front es le) is.1.1) in
-    ap (λ qs. record { pages = qs; size = m.size; makes_objects = m.has_new_objects }) (ap (λ fs. unwound fs ps) (drop_front m.saved front (needed limit es) le)
-    ∙ unwound_kept m.stamp limit (pile d []) d es ps fits.1 (λ number m. pile_none number d m) links.1 ∙ sym (ap (λ fs. unwound fs ps) (drop_front m.saved front es le)))
 
 -- ---- a page whose image at the newest mark is saved
 

@@ -1,12 +1,14 @@
 -- What a log of saved images says of the pages before it.
-use Rattle.std.specs.Prelude.{◌<◌, ◌≤◌, ◌+◌, ◌==◌, nat_lt, ℕ, Bool, true, false, List, [], ◌∷◌, length, drop, IsTrue, ⊤, if◌then◌else◌}
+use Rattle.std.specs.Prelude.{◌<◌, ◌≤◌, ◌+◌, ◌==◌, nat_le, nat_lt, ℕ, Bool, true, false, List, [], ◌∷◌, length, drop, IsTrue, ⊤, if◌then◌else◌}
 use Rattle.std.specs.List.{AllByRecursion}
 use Rattle.std.specs.Coded.{×_prop, Unit-prop, le_prop, →_prop}
 use mathlib.Core.HLevel.{⊥_prop}
 use mathlib.Core.Bool.{Bool-set}
+use Rattle.std.specs.Vec.{with_items}
 use Rattle.wal.specs.declared.pages.PageImage.{PageImage}
+use Rattle.pages.specs.Map.{written_over}
 use Rattle.pager.specs.declared.saved.Saved.{Saved}
-use Rattle.pager.specs.declared.saved.Saved.TheVariants.{Added, Changed}
+use Rattle.pager.specs.declared.saved.Saved.TheVariants.{Added, Changed, Part}
 use Rattle.pager.specs.declared.saved.Mark.{Mark}
 
 -- each page of this image's number is this image
@@ -18,6 +20,16 @@ swapped page (q ∷ qs) = (if q.number == page.number then page else q) ∷ swap
 abbrev pub without : ℕ → List PageImage → List PageImage
 without number [] = []
 without number (q ∷ qs) = if q.number == number then without number qs else q ∷ without number qs
+
+-- the page with these bytes over its own from an offset on, in the same place in memory; where it ends before, it stays
+abbrev pub part_over : ℕ → List ℕ → PageImage → PageImage
+part_over offset bytes page =
+    if nat_le (offset + length bytes) (length page.bytes.items) then record { number = page.number; bytes = with_items page.bytes (written_over offset bytes page.bytes.items) } else page
+
+-- each page of this number has these bytes over its own from an offset on
+abbrev pub parts_over : ℕ → ℕ → List ℕ → List PageImage → List PageImage
+parts_over number offset bytes [] = []
+parts_over number offset bytes (q ∷ qs) = (if q.number == number then part_over offset bytes q else q) ∷ parts_over number offset bytes qs
 
 -- the stamps beside them, where this stamp takes the place of that of one number
 abbrev pub swapped_stamps : ℕ → ℕ → List PageImage → List ℕ → List ℕ
@@ -35,11 +47,19 @@ without_stamps number (q ∷ qs) (t ∷ ts) = if q.number == number then without
 abbrev pub number_of : Saved → ℕ
 number_of (Added number) = number
 number_of (Changed page stamp) = page.number
+number_of (Part number offset bytes) = number
+
+-- it tells the whole page of this number, or that there was none
+abbrev pub tells_page : ℕ → Saved → Bool
+tells_page number (Added other) = other == number
+tells_page number (Changed page stamp) = page.number == number
+tells_page number (Part other offset bytes) = false
 
 -- the pages before the change that saved this
 abbrev pub undone : Saved → List PageImage → List PageImage
 undone (Added number) ps = without number ps
 undone (Changed page stamp) ps = swapped page ps
+undone (Part number offset bytes) ps = parts_over number offset bytes.items ps
 
 -- the pages before the changes that saved these, the newest last
 abbrev pub unwound : List Saved → List PageImage → List PageImage
@@ -48,10 +68,10 @@ unwound (e ∷ es) ps = undone e (unwound es ps)
 
 -- ---- what makes a log whole
 
--- one of these is of the page
+-- one of these tells the whole page
 abbrev pub mentions : ℕ → List Saved → Bool
 mentions number [] = false
-mentions number (e ∷ es) = if number_of e == number then true else mentions number es
+mentions number (e ∷ es) = if tells_page number e then true else mentions number es
 
 -- numbers rise
 abbrev pub NumbersRise : ℕ → List PageImage → Type 0
@@ -69,6 +89,7 @@ Beside Q (p ∷ ps) (t ∷ ts) = Q p t × Beside Q ps ts
 abbrev pub Link : ℕ → List Saved → Saved → Type 0
 Link stamp seen (Added number) = ⊤
 Link stamp seen (Changed page t) = stamp ≤ t → IsTrue (mentions page.number seen)
+Link stamp seen (Part number offset bytes) = ⊤
 
 -- each of these, where those before it are seen
 abbrev pub Linked : ℕ → List Saved → List Saved → Type 0
@@ -79,6 +100,7 @@ Linked stamp seen (e ∷ es) = Link stamp seen e × Linked stamp (e ∷ seen) es
 abbrev pub IsUpTo : ℕ → Saved → Type 0
 IsUpTo most (Added number) = ⊤
 IsUpTo most (Changed page t) = t ≤ most
+IsUpTo most (Part number offset bytes) = ⊤
 
 -- none of these has a greater stamp
 abbrev pub AreUpTo : ℕ → List Saved → Type 0
@@ -129,6 +151,7 @@ newest_stamp (m ∷ n ∷ ms) = newest_stamp (n ∷ ms)
 abbrev pub stays : ℕ → Saved → Bool
 stays stamp (Added number) = true
 stays stamp (Changed page t) = nat_lt t stamp
+stays stamp (Part number offset bytes) = true
 
 -- those of a log that have to stay for them
 abbrev pub needed : ℕ → List Saved → List Saved
@@ -158,6 +181,7 @@ Beside-prop Q is (p ∷ ps) (t ∷ ts) = ×_prop (is p t) (Beside-prop Q is ps t
 Link-prop : (stamp : ℕ) (seen : List Saved) (e : Saved) → IsProp (Link stamp seen e)
 Link-prop stamp seen (Added number) = Unit-prop
 Link-prop stamp seen (Changed page t) = →_prop (Bool-set (mentions page.number seen) true)
+Link-prop stamp seen (Part number offset bytes) = Unit-prop
 
 Linked-prop : (stamp : ℕ) (seen es : List Saved) → IsProp (Linked stamp seen es)
 Linked-prop stamp seen [] = Unit-prop
@@ -166,6 +190,7 @@ Linked-prop stamp seen (e ∷ es) = ×_prop (Link-prop stamp seen e) (Linked-pro
 IsUpTo-prop : (most : ℕ) (e : Saved) → IsProp (IsUpTo most e)
 IsUpTo-prop most (Added number) = Unit-prop
 IsUpTo-prop most (Changed page t) = le_prop
+IsUpTo-prop most (Part number offset bytes) = Unit-prop
 
 AreUpTo-prop : (most : ℕ) (es : List Saved) → IsProp (AreUpTo most es)
 AreUpTo-prop most [] = Unit-prop

@@ -4,6 +4,7 @@
 mod heading;
 mod laws;
 mod marks;
+mod parts;
 mod pruning;
 mod reading;
 mod restarting;

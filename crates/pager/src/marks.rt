@@ -4,15 +4,18 @@ ghost use Rattle.std.specs.Prelude.{◌≡◌, ◌<◌, ◌≤◌, ◌+◌, ◌+
 ghost use Rattle.std.specs.List.{insert};
 ghost use Rattle.sqlval.specs.declared.fault.Fault.TheVariants.{Memory};
 ghost use Rattle.pager.specs.Marks.{Changes, IsOverTheSame, IsSaved, marks_of, now_of};
-ghost use Rattle.pager.specs.Undo.{AllSaved};
+ghost use Rattle.pager.specs.Undo.{AllSaved, part_over};
 ghost use Rattle.pager.specs.Views.{changes_of};
 ghost use Rattle.pager.specs.Writers.{DiffersInPages, IsAt, IsGapFor};
 
+use crate::parts::copy_part;
 use crate::saved::{
-    Mark, Saved, exchange, insert_stamped, leave_out, newest_stamp, put_back, take_out,
+    Mark, Saved, exchange, fill_part, insert_stamped, leave_out, newest_stamp, part_back, put_back,
+    take_out,
 };
 use crate::writer::Writer;
 use sqlval::{Fault, R};
+use std::alloc::Global;
 use wal::PageImage;
 
 impl Writer {
@@ -99,6 +102,9 @@ impl Writer {
                 put_back(&mut self.pages, &mut self.stamps, page, stamp);
             }
             Some(Saved::Added(number)) => take_out(&mut self.pages, &mut self.stamps, number),
+            Some(Saved::Part(number, offset, bytes)) => {
+                part_back(&mut self.pages, number, offset, bytes.as_slice());
+            }
             None => (),
         }
     }
@@ -123,6 +129,36 @@ impl Writer {
             self.stamps[index] = self.stamp;
             let _ = self.saved.push(Saved::Changed(old, stamp));
         }
+    }
+
+    /// Writes bytes over a part of a changed page. What stood there is saved. A refused part changes nothing.
+    pub(crate) fn replace_part(
+        &mut self,
+        alloc: Global,
+        index: usize,
+        offset: usize,
+        bytes: &[u8],
+    ) -> R<()>
+        requires within { index < length (changes_of self.old) }
+        requires fits { (d : PageImage) → offset + length bytes.now
+            ≤ length (slice_index_or (changes_of self.old) index d).bytes.items }
+        ensures pages { (d : PageImage) → OnOk result (changes_of self.new
+            ≡ set (changes_of self.old) index (part_over offset bytes.now (slice_index_or (changes_of self.old) index d))) }
+        ensures rest { DiffersInPages self.old self.new }
+        ensures refused { IfErr result (λ fault. (fault ≡ Memory)
+            × (changes_of self.new ≡ changes_of self.old)) }
+    {
+        let number = self.pages[index].number;
+        let old = copy_part(
+            alloc,
+            self.pages[index].bytes.as_slice(),
+            offset,
+            bytes.len(),
+        )?;
+        self.saved.reserve(self.pages.len() + 1)?;
+        fill_part(&mut self.pages, index, offset, bytes);
+        let _ = self.saved.push(Saved::Part(number, offset, old));
+        Ok(())
     }
 
     /// Puts a page in its gap. A refused one changes nothing.

@@ -1,11 +1,12 @@
 //! What pages were before they changed, and how that is put back.
 
 ghost use Rattle.std.specs.Prelude.{◌≡◌, ◌<◌, ◌≤◌, ◌+◌, ◌++◌, length, drop, set, take, vec_capacity, slice_index_or, IfErr, IfOk, IsTrue, OnOk};
-ghost use Rattle.pager.specs.Undo.{NumbersRise, needed, newest_stamp, stays, swapped, swapped_stamps, without, without_stamps};
+ghost use Rattle.pager.specs.Undo.{NumbersRise, needed, newest_stamp, part_over, parts_over, stays, swapped, swapped_stamps, without, without_stamps};
 ghost use Rattle.std.specs.List.{insert};
 ghost use Rattle.sqlval.specs.declared.fault.Fault.TheVariants.{Memory};
 ghost use Rattle.pager.specs.Writers.{EndsWithin, IsAt, IsGapFor, Refills};
 
+use crate::parts::write_within;
 use sqlval::R;
 use std::mem;
 use wal::PageImage;
@@ -17,6 +18,8 @@ pub enum Saved {
     Added(u32),
     /// It had this image, with this stamp.
     Changed(PageImage, u64),
+    /// The page of this number had these bytes from this offset on.
+    Part(u32, usize, Vec<u8>),
 }
 
 /// A moment to which a transaction's changes can go back.
@@ -58,6 +61,15 @@ pub fn refill(pages: &mut Vec<PageImage>, index: usize, bytes: &[u8])
     ensures { Refills index bytes.now pages.old.items pages.new.items }
 {
     pages[index].bytes.copy_from_slice(bytes);
+}
+
+/// Writes bytes over a part of the page at a place. Where it ends before, nothing changes.
+pub fn fill_part(pages: &mut Vec<PageImage>, index: usize, offset: usize, bytes: &[u8])
+    requires { index < length pages.old.items }
+    ensures { (d : PageImage) → pages.new.items
+        ≡ set pages.old.items index (part_over offset bytes.now (slice_index_or pages.old.items index d)) }
+{
+    let _ = write_within(&mut pages[index].bytes, offset, bytes);
 }
 
 /// Puts a page and its stamp in their place. A refused page changes nothing.
@@ -115,6 +127,16 @@ pub fn put_back(pages: &mut Vec<PageImage>, stamps: &mut Vec<u64>, page: PageIma
     }
 }
 
+/// Writes older bytes over a part of a page, where it is there.
+pub fn part_back(pages: &mut Vec<PageImage>, number: u32, offset: usize, bytes: &[u8])
+    requires { NumbersRise 0 pages.old.items }
+    ensures { pages.new.items ≡ parts_over number offset bytes.now pages.old.items }
+{
+    if let Ok(index) = place_of(pages, number) {
+        fill_part(pages, index, offset, bytes);
+    }
+}
+
 /// Takes a page out, where it is there.
 pub fn take_out(pages: &mut Vec<PageImage>, stamps: &mut Vec<u64>, number: u32)
     requires rises { NumbersRise 0 pages.old.items }
@@ -135,6 +157,7 @@ fn stays(saved: &Saved, limit: u64) -> bool
     match saved {
         Saved::Added(_) => true,
         Saved::Changed(_, stamp) => *stamp < limit,
+        Saved::Part(_, _, _) => true,
     }
 }
 

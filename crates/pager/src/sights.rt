@@ -1,7 +1,7 @@
 //! The pages of a snapshot and of a transaction, as calls.
 
-ghost use Rattle.std.specs.Prelude.{◌≡◌, ◌≤◌, ℕ, List, false, IfErr, IfOk, IsTrue, OnOk};
-ghost use Rattle.pages.specs.Map.{IsThere, page_at};
+ghost use Rattle.std.specs.Prelude.{◌≡◌, ◌≤◌, ◌+◌, ℕ, List, length, false, IfErr, IfOk, IsTrue, OnOk};
+ghost use Rattle.pages.specs.Map.{IsThere, page_at, written_over};
 ghost use Rattle.sqlval.specs.Faults.{IsOutside};
 ghost use Rattle.wal_frame.specs.Accepted.{KeepsFile};
 ghost use Rattle.wal.specs.ErrorCauses.{HasCause};
@@ -13,6 +13,7 @@ ghost use Rattle.pager.specs.Sound.{limits_of};
 ghost use Rattle.pager.specs.Views.{IsViewPage, Tells, ViewHas, changes_of, view_at};
 ghost use Rattle.pager.specs.Writers.{snapshot_of};
 
+use crate::parts::write_within;
 use crate::reading::read_into;
 use crate::writer::Writer;
 use disk::Disk;
@@ -127,6 +128,38 @@ fn lend<'a>(writer: &'a Writer, place: Option<usize>, buffer: &'a [u8]) -> &'a [
     }
 }
 
+/// The bytes of a page that a writer sees, with these over a part of them. (`Damaged` where the page ends before; `Memory`, and what `fetch`
+/// refuses.)
+fn page_over<D: Disk + Drop>(
+    alloc: Global,
+    log: &mut Log<D>,
+    writer: &Writer,
+    number: u32,
+    buffer: &mut Vec<u8>,
+    offset: usize,
+    bytes: &[u8],
+) -> R<Vec<u8>>
+    ensures kept { (state_of log.new ≡ state_of log.old)
+        × KeepsFile D.tells D.file (db_of log.old) (db_of log.new)
+        × KeepsFile D.tells D.file (log_of log.old) (log_of log.new) }
+    ensures cause { HasCause false result log.old log.new }
+    ensures written { (a w b : ℕ) → IsTrue (tells_writer (under_writer log.old writer.now a w b))
+        → IfOk result (λ page. page.items
+        ≡ written_over offset bytes.now (page_at (map_over (under_reader log.old (snapshot_of writer.now) a b) writer.now) number)) }
+    ensures there { (a w b : ℕ) → IsTrue (tells_writer (under_writer log.old writer.now a w b))
+        → IsThere (map_over (under_reader log.old (snapshot_of writer.now) a b) writer.now)
+        (page_size_of writer.now) number
+        → offset + length bytes.now ≤ page_size_of writer.now
+        → IfErr result IsOutside }
+{
+    let place = fetch(log, writer, number, buffer)?;
+    let mut page = lend(writer, place, buffer.as_slice()).to_vec(alloc)?;
+    if !write_within(&mut page, offset, bytes) {
+        return Err(Fault::Damaged(Damage::Page, number));
+    }
+    Ok(page)
+}
+
 /// The pages that a transaction sees, to be read alone.
 #[derive(Drop)]
 pub struct Viewing<'a, D: Disk + Drop> {
@@ -222,6 +255,26 @@ impl<'a, D: Disk + Drop> WritePages for Writing<'a, D> {
     fn put(&mut self, number: u32, bytes: &[u8]) -> R<()> {
         let shown = self.log.size(self.writer.snapshot());
         self.writer.write(self.alloc, shown, number, bytes)
+    }
+
+    fn write_over(&mut self, number: u32, offset: usize, bytes: &[u8]) -> R<()> {
+        if let Some(index) = self.writer.place(number) {
+            return self
+                .writer
+                .write_part(self.alloc, index, number, offset, bytes);
+        }
+        let page = page_over(
+            self.alloc,
+            self.log,
+            self.writer,
+            number,
+            self.buffer,
+            offset,
+            bytes,
+        )?;
+        let shown = self.log.size(self.writer.snapshot());
+        self.writer
+            .write(self.alloc, shown, number, page.as_slice())
     }
 
     fn grow(&mut self) -> R<u32> {

@@ -4,9 +4,10 @@ ghost use Rattle.std.specs.Prelude.{◌+◌, ◌≤◌, length, vec_capacity};
 ghost use Rattle.pager.specs.Undo.{IsKept, IsKept-prop, newest_stamp, older_than};
 
 use crate::heading::rehead;
+use crate::parts::write_within;
 use crate::reading::{header_of, read_page};
 use crate::restarting::begins_anew;
-use crate::saved::{Mark, Saved, ends_within, place_of, refill};
+use crate::saved::{Mark, Saved, ends_within, fill_part, place_of, refill};
 use crate::sizes::is_too_large;
 use db_header::Header;
 use disk::Disk;
@@ -14,6 +15,9 @@ use sqlval::limits::{MAX_DATABASE_BYTES, MAX_PAGES};
 use sqlval::{Damage, Fault, R};
 use std::alloc::Global;
 use wal::{Log, PageImage, Snapshot};
+
+/// How many changes may be saved before a part of a page is saved as the whole page.
+const MOST_PARTS: usize = 256;
 
 /// The pages that a transaction has changed, by rising number, page 1 among them, over a snapshot.
 #[derive(Drop)]
@@ -45,6 +49,7 @@ impl Writer {
     ghost use Rattle.wal.specs.Laws.{IsAmong, IsNotAmong};
     ghost use Rattle.wal.specs.ErrorCauses.{HasCause};
     ghost use Rattle.wal_frame.specs.Accepted.{KeepsFile};
+    ghost use Rattle.pages.specs.Map.{written_over};
     ghost use Rattle.pager.specs.Commits.{CommitsPages, IsRefusedCommit, LeavesCommit, MayCommit};
     ghost use Rattle.pager.specs.Limits as limits;
     ghost use Rattle.pager.specs.Limits.{one_more, pages_of, page_size_of};
@@ -273,6 +278,74 @@ impl Writer {
         }
         let bytes = bytes.to_vec(alloc)?;
         self.replace(index, PageImage { number, bytes });
+        Ok(())
+    }
+
+    /// Whether the changed page at a place is as long as a page, and has so many bytes from an offset on.
+    fn has_room(&self, index: usize, offset: usize, count: usize) -> bool
+        requires { index < length (changes_of self.now) }
+        ensures long { IsTrue result → (d : PageImage)
+            → length (slice_index_or (changes_of self.now) index d).bytes.items ≡ page_size_of self.now }
+        ensures fits { IsTrue result → offset + count ≤ page_size_of self.now }
+        ensures there { IsConsistent self.now → offset + count ≤ page_size_of self.now → IsTrue result }
+    {
+        let size = self.page_size();
+        if self.pages[index].bytes.len() != size {
+            return false;
+        }
+        offset <= size && count <= size - offset
+    }
+
+    /// Whether what stood on a part of a page is saved as that part, and not as the page: while there is no mark but a statement's, and
+    /// little is saved since.
+    fn saves_parts(&self) -> bool {
+        self.marks.len() <= 1 && self.saved.len() < MOST_PARTS
+    }
+
+    /// Writes bytes over a part of the changed page at a place. (`Damaged` for a number outside 1 to the size, and where the page ends
+    /// before; `Memory` where what stood there has to be saved.)
+    pub(crate) fn write_part(
+        &mut self,
+        alloc: Global,
+        index: usize,
+        number: u32,
+        offset: usize,
+        bytes: &[u8],
+    ) -> R<()>
+        requires { IsAt (changes_of self.old) number index }
+        ensures rest { KeepsRest self.old self.new }
+        ensures size { pages_of self.new ≡ pages_of self.old }
+        ensures page { IsConsistent self.old → OnOk result (GetsPage number
+            (written_over offset bytes.now (slice_index_or (bytes_of (changes_of self.old)) index []))
+            self.old self.new) }
+        ensures there { IsConsistent self.old → 1 ≤ number → number ≤ pages_of self.old
+            → offset + length bytes.now ≤ page_size_of self.old
+            → IfErr result (λ fault. fault ≡ Memory) }
+        ensures within { OnOk result ((1 ≤ number) × (number ≤ pages_of self.old)) }
+        ensures not_disk { IfErr result (λ fault. IsNotDiskFault fault) }
+    {
+        if number == 0 || number > self.size {
+            return Err(Fault::Damaged(Damage::Size, number));
+        }
+        if !self.has_room(index, offset, bytes.len()) {
+            return Err(Fault::Damaged(Damage::Page, number));
+        }
+        if self.is_saved(index) {
+            fill_part(&mut self.pages, index, offset, bytes);
+            return Ok(());
+        }
+        if self.saves_parts() {
+            return self.replace_part(alloc, index, offset, bytes);
+        }
+        let mut page = self.pages[index].bytes.as_slice().to_vec(alloc)?;
+        let _ = write_within(&mut page, offset, bytes);
+        self.replace(
+            index,
+            PageImage {
+                number,
+                bytes: page,
+            },
+        );
         Ok(())
     }
 

@@ -1,5 +1,5 @@
 -- Pages by their numbers.
-use Rattle.std.specs.Prelude.{◌≡◌, ◌≤◌, ◌-◌, ℕ, List, [], length, slice_index_or, slice_set}
+use Rattle.std.specs.Prelude.{◌≡◌, ◌≤◌, ◌+◌, ◌-◌, ◌++◌, ℕ, List, [], drop, length, slice_index_or, slice_set, take}
 
 -- the bytes of each page, page 1 first, and none where a page isn't there (Database File Format, "Pages")
 abbrev pub PageMap : Type 0
@@ -12,6 +12,10 @@ page_at map n = slice_index_or map (n - 1) []
 -- the pages with these bytes in the place of this one
 abbrev pub with_page : PageMap → ℕ → List ℕ → PageMap
 with_page map n bytes = slice_set map (n - 1) bytes
+
+-- the bytes with these in the places of those from an offset on
+abbrev pub written_over : ℕ → List ℕ → List ℕ → List ℕ
+written_over offset bytes page = take offset page ++ (bytes ++ drop (offset + length bytes) page)
 
 -- the number is that of a page
 pub record Has (map : PageMap) (number : ℕ) : Type 0 where

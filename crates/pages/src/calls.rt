@@ -2,7 +2,7 @@
 
 ghost use Rattle.std.specs.Prelude.{◌≡◌, ◌≤◌, ◌+◌, ◌++◌, ◌∷◌, [], ℕ, Bool, IsTrue, List, length, replicate, IfOk, IfErr, OnOk};
 ghost use Rattle.sqlval.specs.Faults.{IsOutside};
-ghost use Rattle.pages.specs.Map.{PageMap, page_at, with_page, IsThere};
+ghost use Rattle.pages.specs.Map.{PageMap, page_at, with_page, written_over, IsThere};
 ghost use Rattle.pages.specs.Calls.{Limits, Stays, Causes, IsOutsideOrFull};
 
 use sqlval::R;
@@ -68,6 +68,19 @@ pub trait WritePages: Pages {
         ensures refusal { IsTrue (Self.tells (Self.below self.old))
             → IsThere (Self.map self.old) (Self.limits (Self.below self.old)).page number
             → length bytes.now ≡ (Self.limits (Self.below self.old)).page → IfErr result IsOutside }
+        ensures causes { Causes result (Self.failures self.old) (Self.failures self.new) ⊥ };
+
+    /// Writes these bytes over those of a page from an offset on; all others stay. (`Damaged` for a number outside 1 to the
+    /// size, and where the page ends before; `Memory`, `Io`, `Failed`.)
+    fn write_over(&mut self, number: u32, offset: usize, bytes: &[u8]) -> R<()>
+        ensures kept { Self.below self.new ≡ Self.below self.old }
+        ensures counted { Self.count self.new ≡ Self.count self.old }
+        ensures done { IsTrue (Self.tells (Self.below self.old))
+            → OnOk result (Self.map self.new ≡ with_page (Self.map self.old) number
+            (written_over offset bytes.now (page_at (Self.map self.old) number))) }
+        ensures refusal { IsTrue (Self.tells (Self.below self.old))
+            → IsThere (Self.map self.old) (Self.limits (Self.below self.old)).page number
+            → offset + length bytes.now ≤ (Self.limits (Self.below self.old)).page → IfErr result IsOutside }
         ensures causes { Causes result (Self.failures self.old) (Self.failures self.new) ⊥ };
 
     /// Adds a page of zeros at the end, and answers its number. (`Full` where there are as many

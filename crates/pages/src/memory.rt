@@ -1,7 +1,8 @@
 //! Pages in memory.
 
-ghost use Rattle.std.specs.Prelude.{◌≡◌, ◌≤◌, ◌<◌, ◌^◌, [], true, map, length, All};
+ghost use Rattle.std.specs.Prelude.{◌≡◌, ◌≤◌, ◌<◌, ◌+◌, ◌^◌, [], true, map, length, All};
 ghost use Rattle.pages.specs.Calls.{Limits};
+ghost use Rattle.pages.specs.Map.{written_over};
 
 use crate::calls::{Pages, WritePages};
 use sqlval::{Damage, Fault, R};
@@ -36,6 +37,15 @@ impl MemPages {
             at: 0,
         }
     }
+}
+
+/// Writes bytes over those of a page from an offset on.
+fn put_part(page: &mut Vec<u8>, offset: usize, bytes: &[u8])
+    requires { offset + length bytes.now ≤ length page.old.items }
+    ensures written { page.new.items ≡ written_over offset bytes.now page.old.items }
+    ensures long { length page.new.items ≡ length page.old.items }
+{
+    page[offset..offset + bytes.len()].copy_from_slice(bytes);
 }
 
 impl Pages for MemPages {
@@ -90,6 +100,17 @@ impl WritePages for MemPages {
             return Err(Fault::Damaged(Damage::Page, number));
         }
         self.pages[number as usize - 1].copy_from_slice(bytes);
+        Ok(())
+    }
+
+    fn write_over(&mut self, number: u32, offset: usize, bytes: &[u8]) -> R<()> {
+        if number == 0 || number as usize > self.pages.len() {
+            return Err(Fault::Damaged(Damage::Size, number));
+        }
+        if self.page_size < offset || self.page_size - offset < bytes.len() {
+            return Err(Fault::Damaged(Damage::Page, number));
+        }
+        put_part(&mut self.pages[number as usize - 1], offset, bytes);
         Ok(())
     }
 

@@ -1,6 +1,6 @@
 //! The rows that an expression is evaluated over.
 
-ghost use Rattle.std.specs.Prelude.{◌≡◌, [], Some, IfOk, map, option_map, unwrap_or, slice_get};
+ghost use Rattle.std.specs.Prelude.{◌≡◌, [], Some, IfOk, OnOk, map, option_map, unwrap_or, slice_get};
 ghost use Rattle.sqlval.specs.declared.value.Value.TheVariants.{Null};
 ghost use Rattle.sqlval.specs.Fields.{value_of};
 ghost use Rattle.query_terms.specs.Rows.{picked_rows, row_of, seen};
@@ -9,6 +9,8 @@ ghost use Rattle.query_terms.specs.Values as meant;
 use crate::places::RowPlaces;
 use crate::stored::StoredRow;
 use crate::tree::Place;
+use record::Fields;
+use smallvec::SmallVec;
 use sqlval::{Field, Many, Value};
 use std::alloc::{AllocError, Global};
 use std::marker::Model;
@@ -58,15 +60,15 @@ pub struct Env<'a> {
     pub keys: &'a [Value],
 }
 
-/// The values, without copies of their bytes.
-fn lent(alloc: Global, values: &[Value]) -> Result<Vec<Field<'_>>, AllocError>
-    ensures { IfOk result (λ fields. map value_of fields.items ≡ values.now) }
+/// Puts the values, without copies of their bytes, in place of those that are there.
+fn lend<'a>(values: &'a [Value], fields: &mut Fields<'a>) -> Result<(), AllocError>
+    ensures { OnOk result (map value_of fields.new.items ≡ values.now) }
 {
-    let mut fields = Vec::with_capacity(alloc, values.len())?;
+    fields.clear();
     'values: for value in values {
         fields.push(value.as_field())?;
     }
-    Ok(fields)
+    Ok(())
 }
 
 /// Copies of these values.
@@ -150,13 +152,13 @@ impl SourceRow {
         }
     }
 
-    /// The values, where they lie.
-    pub fn fields(&self, alloc: Global) -> Result<Vec<Field<'_>>, AllocError>
-        ensures { IfOk result (λ fields. map value_of fields.items ≡ self.now.values) }
+    /// Reads the values, where they lie, in place of those that are there.
+    pub fn read_fields<'a>(&'a self, fields: &mut Fields<'a>) -> Result<(), AllocError>
+        ensures { OnOk result (map value_of fields.new.items ≡ self.now.values) }
     {
         match &self.cells {
-            Cells::Stored(stored) => stored.fields(alloc),
-            Cells::Made(made) => lent(alloc, made.values.as_slice()),
+            Cells::Stored(stored) => stored.read_fields(fields),
+            Cells::Made(made) => lend(made.values.as_slice(), fields),
         }
     }
 
@@ -164,7 +166,8 @@ impl SourceRow {
     pub fn values(&self, alloc: Global) -> Result<Many<Value>, AllocError>
         ensures { IfOk result (λ values. values ≡ self.now.values) }
     {
-        let fields = self.fields(alloc)?;
+        let mut fields = SmallVec::new(alloc);
+        self.read_fields(&mut fields)?;
         copies_of(alloc, fields.as_slice())
     }
 

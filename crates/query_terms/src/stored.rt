@@ -5,7 +5,7 @@ ghost use Rattle.sqlval.specs.declared.value.Value.TheVariants.{Null};
 ghost use Rattle.sqlval.specs.Fields.{value_of};
 ghost use Rattle.query_terms.specs.Stored.{rowid_value, with_at};
 
-use record::{fields_of, value_at};
+use record::{Fields, read_fields, value_at};
 use smallvec::SmallVec;
 use sqlval::Field;
 use std::alloc::{AllocError, Global};
@@ -34,7 +34,7 @@ impl Model for StoredRow {
 }
 
 /// Puts a value at a place among these; where there are fewer, after as many NULLs as that takes.
-fn put_at<'a>(fields: &mut Vec<Field<'a>>, place: usize, field: Field<'a>) -> Result<(), AllocError>
+fn put_at<'a>(fields: &mut Fields<'a>, place: usize, field: Field<'a>) -> Result<(), AllocError>
     ensures { OnOk result (map value_of fields.new.items
         ≡ with_at place (value_of field.entry) (map value_of fields.old.items)) }
 {
@@ -101,16 +101,15 @@ impl StoredRow {
         rowid_field(self.rowid)
     }
 
-    /// The values, where they lie.
-    pub fn fields(&self, alloc: Global) -> Result<Vec<Field<'_>>, AllocError>
-        ensures { IfOk result (λ fields. map value_of fields.items ≡ self.now.values) }
+    /// Reads the values, where they lie, in place of those that are there.
+    pub fn read_fields<'a>(&'a self, fields: &mut Fields<'a>) -> Result<(), AllocError>
+        ensures { OnOk result (map value_of fields.new.items ≡ self.now.values) }
     {
-        let mut fields = fields_of(alloc, self.record.as_slice())?;
+        read_fields(self.record.as_slice(), fields)?;
         match self.own {
-            Some(place) => put_at(&mut fields, place, rowid_field(self.rowid))?,
-            None => {}
+            Some(place) => put_at(fields, place, rowid_field(self.rowid)),
+            None => Ok(()),
         }
-        Ok(fields)
     }
 
     /// The value of the column at a place, NULL past the last.

@@ -1,6 +1,6 @@
 //! The values of a record, each read where it is asked for.
 
-ghost use Rattle.std.specs.Prelude.{◌≡◌, ◌<◌, IfOk, IfSome, length, map, option_map, slice_get, unwrap_or};
+ghost use Rattle.std.specs.Prelude.{◌≡◌, ◌<◌, ◌++◌, IfOk, IfSome, OnOk, length, map, option_map, slice_get, unwrap_or};
 ghost use Rattle.sqlval.specs.declared.value.Value.TheVariants.{Null};
 ghost use Rattle.sqlval.specs.Fields.{value_of};
 ghost use Rattle.record.specs.Columns.{HoldsValues, left_after, value_here, values_from, values_in};
@@ -8,8 +8,12 @@ ghost use Rattle.record.specs.Columns.{HoldsValues, left_after, value_here, valu
 use crate::field::{body_size, field_typed};
 use crate::row::halves_of;
 use crate::varint::get_varint;
+use smallvec::SmallVec;
 use sqlval::{Field, Many, Value};
 use std::alloc::{AllocError, Global};
+
+/// Values that lie elsewhere: up to 16 of them take no memory.
+pub type Fields<'a> = SmallVec<Field<'a>, 16>;
 
 /// What is left of the types and of the bodies after the first value, whatever it is.
 fn after_value<'a>(types: &'a [u8], bodies: &'a [u8]) -> Option<(&'a [u8], &'a [u8])>
@@ -48,24 +52,24 @@ fn nth_value<'a>(types: &'a [u8], bodies: &'a [u8], index: usize) -> Field<'a>
     first_value(types_left, bodies_left)
 }
 
-/// All values, in order.
-fn all_fields<'a>(
-    alloc: Global,
+/// Puts all values, in order, after those that are there.
+fn put_fields<'a>(
     types: &'a [u8],
     bodies: &'a [u8],
-) -> Result<Vec<Field<'a>>, AllocError>
-    ensures { IfOk result (λ fields. map value_of fields.items ≡ values_from (length types.now) types.now bodies.now) }
+    fields: &mut Fields<'a>,
+) -> Result<(), AllocError>
+    ensures { OnOk result (map value_of fields.new.items
+        ≡ map value_of fields.old.items ++ values_from (length types.now) types.now bodies.now) }
 {
-    let mut fields = Vec::with_capacity(alloc, types.len())?;
     let mut types_left = types;
     let mut bodies_left = bodies;
     'columns: while let Some((serial, types_after)) = get_varint(types_left) {
         let (field, bodies_after) = field_typed(serial, bodies_left);
-        fields.push_reserved(field);
+        fields.push(field)?;
         types_left = types_after;
         bodies_left = bodies_after;
     }
-    Ok(fields)
+    Ok(())
 }
 
 /// The value at a place of the record in these bytes, counted from 0: no other value is looked at. NULL past its values, and where none can be
@@ -79,13 +83,14 @@ pub fn value_at(bytes: &[u8], index: usize) -> Field<'_>
     }
 }
 
-/// The values of the record in these bytes, where they lie, as `value_at` gives them.
-pub fn fields_of(alloc: Global, bytes: &[u8]) -> Result<Vec<Field<'_>>, AllocError>
-    ensures { IfOk result (λ fields. map value_of fields.items ≡ values_in bytes.now) }
+/// Reads the values of the record in these bytes, where they lie, as `value_at` gives them, in place of those that are there.
+pub fn read_fields<'a>(bytes: &'a [u8], fields: &mut Fields<'a>) -> Result<(), AllocError>
+    ensures { OnOk result (map value_of fields.new.items ≡ values_in bytes.now) }
 {
+    fields.clear();
     match halves_of(bytes) {
-        Ok((types, bodies)) => all_fields(alloc, types, bodies),
-        Err(_) => Ok(Vec::new(alloc)),
+        Ok((types, bodies)) => put_fields(types, bodies, fields),
+        Err(_) => Ok(()),
     }
 }
 
@@ -93,7 +98,8 @@ pub fn fields_of(alloc: Global, bytes: &[u8]) -> Result<Vec<Field<'_>>, AllocErr
 pub fn values_of(alloc: Global, bytes: &[u8]) -> Result<Many<Value>, AllocError>
     ensures { IfOk result (λ values. values ≡ values_in bytes.now) }
 {
-    let fields = fields_of(alloc, bytes)?;
+    let mut fields = SmallVec::new(alloc);
+    read_fields(bytes, &mut fields)?;
     let mut values = Vec::with_capacity(alloc, fields.len())?;
     'fields: for field in fields.as_slice() {
         values.push(field.to_value(alloc)?)?;

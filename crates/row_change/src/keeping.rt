@@ -25,7 +25,8 @@ use crate::setting::{env_at, names_place, places_meant, rowid_at};
 use catalog::{Column, Index, Table};
 use pages::WritePages;
 use query_terms::{Datum, Env, SourceRow, Term, evaluate};
-use record::encode_fields;
+use record::{Fields, encode_fields};
+use smallvec::SmallVec;
 use sqlval::{Affinity, Fault, Field, Many, R};
 use std::alloc::Global;
 use std::array::from_ref;
@@ -120,7 +121,7 @@ fn has_own(own: Option<usize>, rowid: i64, fields: &[Field<'_>]) -> bool
 }
 
 /// Puts NULL at the place of the rowid's own column, if there is one.
-fn hide_own(fields: &mut Vec<Field<'_>>, own: Option<usize>)
+fn hide_own(fields: &mut Fields<'_>, own: Option<usize>)
     ensures { map value_of fields.new.items ≡ in_record own (map value_of fields.old.items) }
 {
     if let Some(place) = own
@@ -147,7 +148,7 @@ fn change_to(
     alloc: Global,
     table: &Table,
     rowid: i64,
-    fields: &mut Vec<Field<'_>>,
+    fields: &mut Fields<'_>,
 ) -> R<Option<RowChange>>
     requires { length table.now.checks ≡ 0 }
     ensures { IfOk result (λ found. IfSome found (IsChangeTo table.now (rowid, map value_of fields.old.items))) }
@@ -178,7 +179,7 @@ fn give_values<'a>(
 }
 
 /// Puts a value at its place, if there is one.
-fn put_field<'a>(fields: &mut Vec<Field<'a>>, place: usize, field: Field<'a>)
+fn put_field<'a>(fields: &mut Fields<'a>, place: usize, field: Field<'a>)
     ensures { map value_of fields.new.items ≡ slice_set (map value_of fields.old.items) place (value_of field.entry) }
 {
     if place < fields.len() {
@@ -187,7 +188,7 @@ fn put_field<'a>(fields: &mut Vec<Field<'a>>, place: usize, field: Field<'a>)
 }
 
 /// Puts the values of SET at their places, one after another.
-fn put_given<'a>(fields: &mut Vec<Field<'a>>, sets: &[(usize, Term)], given: &'a [Datum<'a>])
+fn put_given<'a>(fields: &mut Fields<'a>, sets: &[(usize, Term)], given: &'a [Datum<'a>])
     ensures { map value_of fields.new.items
         ≡ set_values (map value_of fields.old.items) (zip (map (λ set. set.0) sets.now) (map datum given.now)) }
 {
@@ -195,6 +196,28 @@ fn put_given<'a>(fields: &mut Vec<Field<'a>>, sets: &[(usize, Term)], given: &'a
     'sets: for index in 0..most {
         put_field(fields, sets[index].0, given[index].as_field());
     }
+}
+
+/// The change of a row, of this rowid, to what it is with the values of SET at their places, where the columns store them as they are. (`Memory`.)
+fn change_with<'a>(
+    alloc: Global,
+    table: &Table,
+    sets: &[(usize, Term)],
+    row: &'a SourceRow,
+    rowid: i64,
+    given: &'a [Datum<'a>],
+) -> R<Option<RowChange>>
+    requires { length table.now.checks ≡ 0 }
+    ensures { IfOk result (λ found. IfSome found (IsChangeTo table.now (
+      rowid,
+      set_values row.now.values
+          (zip (map (λ set. set.0) sets.now) (map datum given.now)),
+    ))) }
+{
+    let mut fields = SmallVec::new(alloc);
+    row.read_fields(&mut fields)?;
+    put_given(&mut fields, sets, given);
+    change_to(alloc, table, rowid, &mut fields)
 }
 
 /// The change of the row at a place, where it is kept. `given` is memory for the values of SET. (What SET's expressions refuse; `Memory`.)
@@ -215,9 +238,9 @@ fn kept_change<'a>(
     };
     let env = env_at(rows, from_ref(place).as_slice());
     give_values(alloc, sets, env, given)?;
-    let mut fields = row.fields(alloc)?;
-    put_given(&mut fields, sets, given.as_slice());
-    change_to(alloc, table, rowid_at(rows, *place), &mut fields)
+    let rowid = rowid_at(rows, *place);
+    let values = given.as_slice();
+    change_with(alloc, table, sets, row, rowid, values)
 }
 
 /// The changes of the rows at these places, where each is kept. (What SET's expressions refuse; `Memory`.)

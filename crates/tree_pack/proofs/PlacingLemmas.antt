@@ -16,6 +16,7 @@ use Rattle.tree_page.specs.declared.items.Kind.TheVariants.{TableLeaf, TableInte
 use Rattle.tree_page.proofs.HeaderLemmas.{length-pointers, same_length, length-header}
 use Rattle.tree_page.proofs.NodeLemmas.{node_count}
 use Rattle.tree_pack.specs.Placing.{IsPlaced, least_in, right_width, placed_of}
+use Rattle.tree_pack.specs.Replacing.{written_over}
 
 -- ---- the first of the cells
 
@@ -37,6 +38,27 @@ least_next most least whole (high ∷ low ∷ left) two e so_far =
       ap (λ (n : ℕ). least_in least (take n left)) rest ∙ ap (least_in least) (take_all (length left) left (omega arith)) ∙ ap (λ (n : ℕ). least_in n left) least_is ∙ so_far,
       omega (arith, e),
     )
+
+-- of one pointer at least, the least is told by the first and the others
+least_or : (most first : ℕ) (bytes : List ℕ) → least_in (min most first) bytes ≡ min most (least_in first bytes)
+least_or most first [] = refl
+least_or most first (high ∷ []) = refl
+least_or most first (high ∷ low ∷ bytes) =
+    let number = two_bytes high low in
+    let other : min (min most first) number ≡ min most (min first number) = omega arith in
+    ap (λ (n : ℕ). least_in n bytes) other ∙ least_or most (min first number) bytes
+
+pub least_some : (most first least : ℕ) (bytes : List ℕ) → 2 ≤ length bytes → first ≡ slice_index_or bytes 0 0 * 256 + slice_index_or bytes 1 0 → least ≡ least_in first (take (length bytes - 2) (drop 2 bytes)) → min most least ≡ least_in most bytes
+least_some most first least [] two e least_is = absurd (omega arith)
+least_some most first least (high ∷ []) two e least_is = absurd (omega arith)
+least_some most first least (high ∷ low ∷ bytes) two e least_is =
+    let rest : length (high ∷ low ∷ bytes) - 2 ≡ length bytes = omega arith in
+    let number : first ≡ two_bytes high low = e ∙ number_is high low in
+    let others : take (length (high ∷ low ∷ bytes) - 2) bytes ≡ bytes = ap (λ (n : ℕ). take n bytes) rest ∙ take_all (length bytes) bytes (omega arith) in
+    ap (min most) (least_is ∙ ap (least_in first) others ∙ ap (λ (n : ℕ). least_in n bytes) number) ∙ sym (least_or most (two_bytes high low) bytes)
+  where
+    number_is : (high low : ℕ) → high * 256 + low ≡ two_bytes high low
+    number_is high low = omega arith
 
 -- each cell begins at or after the least of the pointers
 pub all_behind : (page : List ℕ) (least most : ℕ) (spans : List Span) (cells : List (List ℕ)) → least ≡ least_in most (flat_map pointer spans) → Pairwise (IsAt page) spans cells
@@ -175,25 +197,26 @@ record NewParts (kind : ℕ) (page : List ℕ) (start : ℕ) (right : List ℕ) 
   pub parts : new ≡ is.before
       ++ (page_header kind is.freeblock (length (insert cells place cell)) (to_be_bytes w16 at) is.fragments ++ (right ++ (flat_map pointer (insert is.spans place (record { from = at; to = at + length cell })) ++ (gap ++ (cell ++ tail)))))
 
-new_parts : (kind : ℕ) (page : List ℕ) (start : ℕ) (right : List ℕ) (cells : List (List ℕ)) (is : IsTreePage kind page start right cells) (middle low place : ℕ) (cell : List ℕ) → place ≤ length cells → middle ≡ start + 8 + length right + 2 * place
-    → start + 8 + length right + 2 * length cells + 2 + length cell ≤ low → low ≤ length page
-    → NewParts kind page start right cells is place (low - length cell) cell (drop low page) (placed_of page start middle (length cells + 1) low cell)
-new_parts kind page start right cells is middle low place cell le middle_is room within =
-    let at = low - length cell in
-    let tail = drop low page in
-    let span : Span = record { from = at; to = at + length cell } in
-    let h = halves kind page start right cells is place le in
+-- the old page's parts: up to the count, from the fragments up to the place, and from there on
+record Pieces (kind : ℕ) (page : List ℕ) (start : ℕ) (right : List ℕ) (cells : List (List ℕ)) (is : IsTreePage kind page start right cells) (place middle : ℕ) (h : Halves kind page start right cells is place) : Type 0 where
+  pub size_a : length (is.before ++ (kind ∷ is.freeblock)) ≡ start + 3
+  pub size_b : length ((is.before ++ (kind ∷ is.freeblock)) ++ (to_be_bytes w16 (length cells) ++ is.content)) ≡ start + 7
+  pub size_inner : length (is.fragments ∷ (right ++ h.firsts)) ≡ middle - (start + 7)
+  pub size_c : length (((is.before ++ (kind ∷ is.freeblock)) ++ (to_be_bytes w16 (length cells) ++ is.content)) ++ (is.fragments ∷ (right ++ h.firsts))) ≡ middle
+  pub page_a : page ≡ (is.before ++ (kind ∷ is.freeblock)) ++ ((to_be_bytes w16 (length cells) ++ is.content) ++ ((is.fragments ∷ (right ++ h.firsts)) ++ (h.lasts ++ is.rest)))
+  pub page_b : page ≡ ((is.before ++ (kind ∷ is.freeblock)) ++ (to_be_bytes w16 (length cells) ++ is.content)) ++ ((is.fragments ∷ (right ++ h.firsts)) ++ (h.lasts ++ is.rest))
+  pub page_c : page ≡ (((is.before ++ (kind ∷ is.freeblock)) ++ (to_be_bytes w16 (length cells) ++ is.content)) ++ (is.fragments ∷ (right ++ h.firsts))) ++ (h.lasts ++ is.rest)
+  pub long : length page ≡ middle + (length h.lasts + length is.rest)
+
+pieces : (kind : ℕ) (page : List ℕ) (start : ℕ) (right : List ℕ) (cells : List (List ℕ)) (is : IsTreePage kind page start right cells) (place middle : ℕ) (h : Halves kind page start right cells is place) → middle ≡ start + 8 + length right + 2 * place → Pieces kind page start right cells is place middle h
+pieces kind page start right cells is place middle h middle_is =
     let first_size = h.first_size in
-    let last_size = h.last_size in
     let old_count = to_be_bytes w16 (length cells) in
-    let new_count = to_be_bytes w16 (length cells + 1) in
-    let mine = to_be_bytes w16 at in
     let a = is.before ++ (kind ∷ is.freeblock) in
     let b = a ++ (old_count ++ is.content) in
     let inner = is.fragments ∷ (right ++ h.firsts) in
     let outer = h.lasts ++ is.rest in
     let c = b ++ inner in
-    let gap = take (at - (start + 8 + length right + 2 * length cells + 2)) is.rest in
     let size_a : length a ≡ start + 3 = omega (arith, length-append is.before (kind ∷ is.freeblock), is.freeblock_is, is.start_is) in
     let size_b : length b ≡ start + 7 = omega (arith, size_a, length-append a (old_count ++ is.content), length-append old_count is.content, is.content_is) in
     let size_inner : length inner ≡ middle - (start + 7) = omega (arith, length-append right h.firsts, first_size, middle_is) in
@@ -201,19 +224,31 @@ new_parts kind page start right cells is middle low place cell le middle_is room
     let page_a : page ≡ a ++ ((old_count ++ is.content) ++ (inner ++ outer)) = h.parts ∙ up_to_place is.before (kind ∷ []) is.freeblock old_count is.content (is.fragments ∷ []) right h.firsts outer in
     let page_b : page ≡ b ++ (inner ++ outer) = page_a ∙ sym (append_assoc a (old_count ++ is.content) (inner ++ outer)) in
     let page_c : page ≡ c ++ outer = page_b ∙ sym (append_assoc b inner outer) in
-    let long : length page ≡ middle + (length h.lasts + length is.rest) = omega (arith, ap length page_c, length-append c outer, length-append h.lasts is.rest, size_c) in
-    let one : take (start + 3) page ≡ a = ap (take (start + 3)) page_a ∙ take_at a _ (start + 3) size_a in
-    let two : take (middle - (start + 7)) (drop (start + 7) page) ≡ inner =
-    ap (take (middle - (start + 7))) (ap (drop (start + 7)) page_b ∙ drop_at b (inner ++ outer) (start + 7) size_b) ∙ take_at inner outer (middle - (start + 7)) size_inner in
-    let reach : at - 2 - middle ≡ length h.lasts + (at - (start + 8 + length right + 2 * length cells + 2)) = omega (arith, middle_is, last_size, room) in
-    let three : take (at - 2 - middle) (drop middle page) ≡ h.lasts ++ gap =
-    ap (take (at - 2 - middle)) (ap (drop middle) page_c ∙ drop_at c outer middle size_c) ∙ ap (λ (n : ℕ). take n outer) reach ∙ take-append-add h.lasts is.rest (at - (start + 8 + length right + 2 * length cells + 2)) in
-    let size_gap : length gap ≡ at - (start + 8 + length right + 2 * length cells + 2) =
-    length-take-le (at - (start + 8 + length right + 2 * length cells + 2)) is.rest (omega (arith, long, within, room, middle_is, last_size)) in
-    let whole : placed_of page start middle (length cells + 1) low cell ≡ a ++ (new_count ++ (mine ++ (inner ++ (mine ++ ((h.lasts ++ gap) ++ (cell ++ tail)))))) =
-    ap (λ (x : List ℕ). x ++ (new_count ++ (mine ++ (take (middle - (start + 7)) (drop (start + 7) page) ++ (mine ++ (take (at - 2 - middle) (drop middle page) ++ (cell ++ tail))))))) one
-    ∙ ap (λ (x : List ℕ). a ++ (new_count ++ (mine ++ (x ++ (mine ++ (take (at - 2 - middle) (drop middle page) ++ (cell ++ tail))))))) two
-    ∙ ap (λ (x : List ℕ). a ++ (new_count ++ (mine ++ (inner ++ (mine ++ (x ++ (cell ++ tail))))))) three in
+    record {
+      size_a = size_a;
+      size_b = size_b;
+      size_inner = size_inner;
+      size_c = size_c;
+      page_a = page_a;
+      page_b = page_b;
+      page_c = page_c;
+      long = omega (arith, ap length page_c, length-append c outer, length-append h.lasts is.rest, size_c);
+    }
+
+-- a page with these parts has those of the new page
+parts_with : (kind : ℕ) (page : List ℕ) (start : ℕ) (right : List ℕ) (cells : List (List ℕ)) (is : IsTreePage kind page start right cells) (middle at place : ℕ) (cell tail gap new : List ℕ) (h : Halves kind page start right cells is place) → Pieces kind page start right cells is place middle h → place ≤ length cells → middle ≡ start + 8 + length right + 2 * place
+    → length gap + (start + 8 + length right + 2 * length cells + 2) ≡ at
+    → new ≡ (is.before ++ (kind ∷ is.freeblock)) ++ (to_be_bytes w16 (length cells + 1) ++ (to_be_bytes w16 at ++ ((is.fragments ∷ (right ++ h.firsts)) ++ (to_be_bytes w16 at ++ ((h.lasts ++ gap) ++ (cell ++ tail))))))
+    → NewParts kind page start right cells is place at cell tail new
+parts_with kind page start right cells is middle at place cell tail gap new h old le middle_is size_gap whole =
+    let span : Span = record { from = at; to = at + length cell } in
+    let last_size = h.last_size in
+    let size_a = old.size_a in
+    let size_inner = old.size_inner in
+    let new_count = to_be_bytes w16 (length cells + 1) in
+    let mine = to_be_bytes w16 at in
+    let a = is.before ++ (kind ∷ is.freeblock) in
+    let inner = is.fragments ∷ (right ++ h.firsts) in
     let base = a ++ (new_count ++ (mine ++ (inner ++ (mine ++ (h.lasts ++ gap))))) in
     let base_size : length base ≡ at =
     omega (
@@ -226,7 +261,6 @@ new_parts kind page start right cells is middle low place cell le middle_is room
       length-append h.lasts gap,
       last_size,
       middle_is,
-      room,
     ) in
     let pointers : flat_map pointer (insert is.spans place span) ≡ h.firsts ++ (mine ++ h.lasts) =
     flat_map-append pointer (take place is.spans) (span ∷ drop place is.spans) ∙ ap (λ (x : List ℕ). x ++ (mine ++ flat_map pointer (drop place is.spans))) (sym h.firsts_are) ∙ ap (λ (x : List ℕ). h.firsts ++ (mine ++ x)) (sym h.lasts_are) in
@@ -242,6 +276,116 @@ new_parts kind page start right cells is middle low place cell le middle_is room
       parts = whole ∙ flat ∙ ap (λ (n : ℕ). is.before ++ (header n ++ (right ++ ((h.firsts ++ (mine ++ h.lasts)) ++ (gap ++ (cell ++ tail)))))) (sym count)
           ∙ ap (λ (x : List ℕ). is.before ++ (header (length (insert cells place cell)) ++ (right ++ (x ++ (gap ++ (cell ++ tail)))))) (sym pointers);
     }
+
+new_parts : (kind : ℕ) (page : List ℕ) (start : ℕ) (right : List ℕ) (cells : List (List ℕ)) (is : IsTreePage kind page start right cells) (middle low place : ℕ) (cell : List ℕ) → place ≤ length cells → middle ≡ start + 8 + length right + 2 * place
+    → start + 8 + length right + 2 * length cells + 2 + length cell ≤ low → low ≤ length page
+    → NewParts kind page start right cells is place (low - length cell) cell (drop low page) (placed_of page start middle (length cells + 1) low cell)
+new_parts kind page start right cells is middle low place cell le middle_is room within =
+    let at = low - length cell in
+    let tail = drop low page in
+    let h = halves kind page start right cells is place le in
+    let old = pieces kind page start right cells is place middle h middle_is in
+    let last_size = h.last_size in
+    let long = old.long in
+    let new_count = to_be_bytes w16 (length cells + 1) in
+    let mine = to_be_bytes w16 at in
+    let a = is.before ++ (kind ∷ is.freeblock) in
+    let b = a ++ (to_be_bytes w16 (length cells) ++ is.content) in
+    let inner = is.fragments ∷ (right ++ h.firsts) in
+    let outer = h.lasts ++ is.rest in
+    let c = b ++ inner in
+    let gap = take (at - (start + 8 + length right + 2 * length cells + 2)) is.rest in
+    let one : take (start + 3) page ≡ a = ap (take (start + 3)) old.page_a ∙ take_at a _ (start + 3) old.size_a in
+    let two : take (middle - (start + 7)) (drop (start + 7) page) ≡ inner =
+    ap (take (middle - (start + 7))) (ap (drop (start + 7)) old.page_b ∙ drop_at b (inner ++ outer) (start + 7) old.size_b) ∙ take_at inner outer (middle - (start + 7)) old.size_inner in
+    let reach : at - 2 - middle ≡ length h.lasts + (at - (start + 8 + length right + 2 * length cells + 2)) = omega (arith, middle_is, last_size, room) in
+    let three : take (at - 2 - middle) (drop middle page) ≡ h.lasts ++ gap =
+    ap (take (at - 2 - middle)) (ap (drop middle) old.page_c ∙ drop_at c outer middle old.size_c) ∙ ap (λ (n : ℕ). take n outer) reach ∙ take-append-add h.lasts is.rest (at - (start + 8 + length right + 2 * length cells + 2)) in
+    let size_gap : length gap ≡ at - (start + 8 + length right + 2 * length cells + 2) =
+    length-take-le (at - (start + 8 + length right + 2 * length cells + 2)) is.rest (omega (arith, long, within, room, middle_is, last_size)) in
+    let whole : placed_of page start middle (length cells + 1) low cell ≡ a ++ (new_count ++ (mine ++ (inner ++ (mine ++ ((h.lasts ++ gap) ++ (cell ++ tail)))))) =
+    ap (λ (x : List ℕ). x ++ (new_count ++ (mine ++ (take (middle - (start + 7)) (drop (start + 7) page) ++ (mine ++ (take (at - 2 - middle) (drop middle page) ++ (cell ++ tail))))))) one
+    ∙ ap (λ (x : List ℕ). a ++ (new_count ++ (mine ++ (x ++ (mine ++ (take (at - 2 - middle) (drop middle page) ++ (cell ++ tail))))))) two
+    ∙ ap (λ (x : List ℕ). a ++ (new_count ++ (mine ++ (inner ++ (mine ++ (x ++ (cell ++ tail))))))) three in
+    parts_with kind page start right cells is middle at place cell tail gap (placed_of page start middle (length cells + 1) low cell) h old le middle_is (omega (arith, size_gap, room)) whole
+
+-- ---- the bytes that are written over
+
+-- bytes over as many others
+over : (page before bytes old after : List ℕ) (at : ℕ) → page ≡ before ++ (old ++ after) → length before ≡ at → length old ≡ length bytes → written_over at bytes page ≡ before ++ (bytes ++ after)
+over page before bytes old after at e size same =
+    let grouped : page ≡ (before ++ old) ++ after = e ∙ sym (append_assoc before old after) in
+    let end : length (before ++ old) ≡ at + length bytes = omega (arith, length-append before old, size, same) in
+    let first : take at page ≡ before = ap (take at) e ∙ take_at before (old ++ after) at size in
+    let last : drop (at + length bytes) page ≡ after = ap (drop (at + length bytes)) grouped ∙ drop_at (before ++ old) after (at + length bytes) end in
+    ap (λ (x : List ℕ). x ++ (bytes ++ drop (at + length bytes) page)) first ∙ ap (λ (x : List ℕ). before ++ (bytes ++ x)) last
+
+-- `placed_at`, of numbers
+abbrev pub over_thrice : List ℕ → ℕ → ℕ → ℕ → ℕ → ℕ → List ℕ → List ℕ
+over_thrice page start middle end count at cell =
+    written_over (start + 3) (to_be_bytes w16 count ++ to_be_bytes w16 at) (written_over middle (to_be_bytes w16 at ++ take (end - middle) (drop middle page)) (written_over at cell page))
+
+-- the page's parts in other groups, as each of the three is written
+to_old_cell : (front inner lasts two gap old tail : List ℕ) → (front ++ inner) ++ (lasts ++ (two ++ (gap ++ (old ++ tail)))) ≡ (((front ++ inner) ++ (lasts ++ two)) ++ gap) ++ (old ++ tail)
+to_old_cell front inner lasts two gap old tail = simp append_assoc
+
+to_old_pointers : (front lasts two gap ends : List ℕ) → ((front ++ (lasts ++ two)) ++ gap) ++ ends ≡ front ++ ((lasts ++ two) ++ (gap ++ ends))
+to_old_pointers front lasts two gap ends = simp append_assoc
+
+to_old_count : (a count inner ends : List ℕ) → ((a ++ count) ++ inner) ++ ends ≡ a ++ (count ++ (inner ++ ends))
+to_old_count a count inner ends = simp append_assoc
+
+to_new : (a count mine inner lasts gap ends : List ℕ) → a ++ ((count ++ mine) ++ (inner ++ ((mine ++ lasts) ++ (gap ++ ends)))) ≡ a ++ (count ++ (mine ++ (inner ++ (mine ++ ((lasts ++ gap) ++ ends)))))
+to_new a count mine inner lasts gap ends = simp append_assoc
+
+new_parts_over : (kind : ℕ) (page : List ℕ) (start : ℕ) (right : List ℕ) (cells : List (List ℕ)) (is : IsTreePage kind page start right cells) (middle end low place : ℕ) (cell : List ℕ) → place ≤ length cells → middle ≡ start + 8 + length right + 2 * place → end ≡ start + 8 + length right + 2 * length cells
+    → start + 8 + length right + 2 * length cells + 2 + length cell ≤ low → low ≤ length page
+    → NewParts kind page start right cells is place (low - length cell) cell (drop low page) (over_thrice page start middle end (length cells + 1) (low - length cell) cell)
+new_parts_over kind page start right cells is middle end low place cell le middle_is end_is room within =
+    let at = low - length cell in
+    let h = halves kind page start right cells is place le in
+    let p = pieces kind page start right cells is place middle h middle_is in
+    let last_size = h.last_size in
+    let long = p.long in
+    let old_count = to_be_bytes w16 (length cells) ++ is.content in
+    let new_count = to_be_bytes w16 (length cells + 1) in
+    let mine = to_be_bytes w16 at in
+    let a = is.before ++ (kind ∷ is.freeblock) in
+    let inner = is.fragments ∷ (right ++ h.firsts) in
+    let c = (a ++ old_count) ++ inner in
+    let two = take 2 is.rest in
+    let after = drop 2 is.rest in
+    let gap = take (at - (end + 2)) after in
+    let others = drop (at - (end + 2)) after in
+    let old = take (length cell) others in
+    let tail = drop (length cell) others in
+    let size_two : length two ≡ 2 = length-take-le 2 is.rest (omega (arith, long, within, room, middle_is, last_size)) in
+    let size_after : length after ≡ length is.rest - 2 = length-drop 2 is.rest in
+    let size_gap : length gap ≡ at - (end + 2) = length-take-le (at - (end + 2)) after (omega (arith, size_after, long, within, room, middle_is, end_is, last_size)) in
+    let size_others : length others ≡ length after - (at - (end + 2)) = length-drop (at - (end + 2)) after in
+    let size_old : length old ≡ length cell = length-take-le (length cell) others (omega (arith, size_others, size_after, long, within, room, middle_is, end_is, last_size)) in
+    let rest_is : is.rest ≡ two ++ (gap ++ (old ++ tail)) =
+    sym (take-append-drop 2 is.rest) ∙ ap (λ (x : List ℕ). two ++ x) (sym (take-append-drop (at - (end + 2)) after) ∙ ap (λ (x : List ℕ). gap ++ x) (sym (take-append-drop (length cell) others))) in
+    let before = (c ++ (h.lasts ++ two)) ++ gap in
+    let size_before : length before ≡ at = omega (arith, length-append (c ++ (h.lasts ++ two)) gap, length-append c (h.lasts ++ two), length-append h.lasts two, p.size_c, last_size, size_two, size_gap, middle_is, end_is, room) in
+    let page_is : page ≡ before ++ (old ++ tail) = p.page_c ∙ ap (λ (x : List ℕ). c ++ (h.lasts ++ x)) rest_is ∙ to_old_cell (a ++ old_count) inner h.lasts two gap old tail in
+    let up : length (before ++ old) ≡ low = omega (arith, length-append before old, size_before, size_old, room) in
+    let tail_is : drop low page ≡ tail = ap (drop low) (page_is ∙ sym (append_assoc before old tail)) ∙ drop_at (before ++ old) tail low up in
+    let ends = cell ++ tail in
+    let first : written_over at cell page ≡ c ++ ((h.lasts ++ two) ++ (gap ++ ends)) = over page before cell old tail at page_is size_before size_old ∙ to_old_pointers c h.lasts two gap ends in
+    let lasts_long : length h.lasts ≡ end - middle = omega (arith, last_size, middle_is, end_is) in
+    let lasts_are : take (end - middle) (drop middle page) ≡ h.lasts = ap (take (end - middle)) (ap (drop middle) p.page_c ∙ drop_at c (h.lasts ++ is.rest) middle p.size_c) ∙ take_at h.lasts is.rest (end - middle) lasts_long in
+    let same_size : length (h.lasts ++ two) ≡ length (mine ++ h.lasts) = omega (arith, length-append h.lasts two, size_two) in
+    let second : written_over middle (mine ++ h.lasts) (written_over at cell page) ≡ c ++ ((mine ++ h.lasts) ++ (gap ++ ends)) =
+    over (written_over at cell page) c (mine ++ h.lasts) (h.lasts ++ two) (gap ++ ends) middle first p.size_c same_size in
+    let count_size : length old_count ≡ length (new_count ++ mine) = omega (arith, is.content_is) in
+    let third : written_over (start + 3) (new_count ++ mine) (written_over middle (mine ++ h.lasts) (written_over at cell page)) ≡ a ++ ((new_count ++ mine) ++ (inner ++ ((mine ++ h.lasts) ++ (gap ++ ends)))) =
+    over (written_over middle (mine ++ h.lasts) (written_over at cell page)) a (new_count ++ mine) old_count (inner ++ ((mine ++ h.lasts) ++ (gap ++ ends))) (start + 3) (second ∙ to_old_count a old_count inner ((mine ++ h.lasts) ++ (gap ++ ends))) p.size_a count_size in
+    let whole : over_thrice page start middle end (length cells + 1) at cell ≡ a ++ (new_count ++ (mine ++ (inner ++ (mine ++ ((h.lasts ++ gap) ++ ends))))) =
+    ap (λ (x : List ℕ). written_over (start + 3) (new_count ++ mine) (written_over middle (mine ++ x) (written_over at cell page))) lasts_are ∙ third ∙ to_new a new_count mine inner h.lasts gap ends in
+    let now : over_thrice page start middle end (length cells + 1) at cell ≡ a ++ (new_count ++ (mine ++ (inner ++ (mine ++ ((h.lasts ++ gap) ++ (cell ++ drop low page)))))) =
+    whole ∙ ap (λ (x : List ℕ). a ++ (new_count ++ (mine ++ (inner ++ (mine ++ ((h.lasts ++ gap) ++ (cell ++ x))))))) (sym tail_is) in
+    parts_with kind page start right cells is middle at place cell (drop low page) gap (over_thrice page start middle end (length cells + 1) at cell) h p le middle_is (omega (arith, size_gap, end_is, room)) now
 
 -- the new page has the cells of the old one, and this one
 page_placed : (kind : ℕ) (page : List ℕ) (start : ℕ) (right : List ℕ) (cells : List (List ℕ)) (is : IsTreePage kind page start right cells) (place low : ℕ) (cell new : List ℕ)
@@ -286,27 +430,45 @@ page_placed kind page start right cells is place low cell new n le room within n
 
 -- ---- the page
 
+-- a page with the new one's parts says what the cells say
+says : (page : List ℕ) (start : ℕ) (old new : Node) (is : IsNode page start old) (low place : ℕ) (cell written : List ℕ) → NewParts (code_of old) page start (right_of old) is.cells is.page_is place (low - length cell) cell (drop low page) written → place ≤ length is.cells
+    → start + 8 + length (right_of old) + 2 * length is.cells + 2 + length cell ≤ low → low ≤ length page → low ≤ 2 ^ 16 → 0 < length cell → length is.cells + 1 < 2 ^ 16
+    → AllByRecursion (λ span. low ≤ span.from) is.page_is.spans → code_of new ≡ code_of old → right_of new ≡ right_of old → Say (length page) (insert is.cells place cell) new
+    → IsPlaced page start (insert is.cells place cell) new written
+says page start old new is low place cell written n le room within near some few behind same last say =
+    let cells = insert is.cells place cell in
+    let placed = page_placed (code_of old) page start (right_of old) is.cells is.page_is place low cell written n le room within near some few behind in
+    let of_new : IsTreePage (code_of new) written start (right_of new) cells =
+    subst (λ (right : List ℕ). IsTreePage (code_of new) written start right cells) (sym last) (subst (λ (kind : ℕ). IsTreePage kind written start (right_of old) cells) (sym same) placed.0) in
+    record {
+      is = record { cells = cells; page_is = of_new; say = subst (λ (usable : ℕ). Say usable cells new) (sym placed.1) say };
+      cells_are = refl;
+      long = placed.1;
+      front = placed.2;
+    }
+
 -- the new page says what the cells say
 pub is_placed : (page : List ℕ) (start : ℕ) (old new : Node) (is : IsNode page start old) (middle low place count : ℕ) (cell written : List ℕ) → place ≤ length is.cells → middle ≡ start + 8 + length (right_of old) + 2 * place
     → count ≡ length is.cells + 1 → start + 8 + length (right_of old) + 2 * length is.cells + 2 + length cell ≤ low → low ≤ length page → low ≤ 2 ^ 16 → 0 < length cell → length is.cells + 1 < 2 ^ 16
     → AllByRecursion (λ span. low ≤ span.from) is.page_is.spans → code_of new ≡ code_of old → right_of new ≡ right_of old → Say (length page) (insert is.cells place cell) new → written ≡ placed_of page start middle count low cell
     → IsPlaced page start (insert is.cells place cell) new written
 is_placed page start old new is middle low place count cell written le middle_is count_is room within near some few behind same last say e =
-    let p = is.page_is in
-    let cells = insert is.cells place cell in
-    let n = new_parts (code_of old) page start (right_of old) is.cells p middle low place cell le middle_is room within in
+    let n = new_parts (code_of old) page start (right_of old) is.cells is.page_is middle low place cell le middle_is room within in
     let whole : written ≡ placed_of page start middle (length is.cells + 1) low cell = e ∙ ap (λ (m : ℕ). placed_of page start middle m low cell) count_is in
-    let placed = page_placed (code_of old) page start (right_of old) is.cells p place low cell (placed_of page start middle (length is.cells + 1) low cell) n le room within near some few behind in
-    let long : length written ≡ length page = ap length whole ∙ placed.1 in
-    let of_old : IsTreePage (code_of old) written start (right_of old) cells = subst (λ (bytes : List ℕ). IsTreePage (code_of old) bytes start (right_of old) cells) (sym whole) placed.0 in
-    let of_new : IsTreePage (code_of new) written start (right_of new) cells =
-    subst (λ (right : List ℕ). IsTreePage (code_of new) written start right cells) (sym last) (subst (λ (kind : ℕ). IsTreePage kind written start (right_of old) cells) (sym same) of_old) in
-    record {
-      is = record { cells = cells; page_is = of_new; say = subst (λ (usable : ℕ). Say usable cells new) (sym long) say };
-      cells_are = refl;
-      long = long;
-      front = ap (take start) whole ∙ placed.2;
-    }
+    subst (IsPlaced page start (insert is.cells place cell) new) (sym whole)
+    (says page start old new is low place cell (placed_of page start middle (length is.cells + 1) low cell) n le room within near some few behind same last say)
+
+-- so does the page that is written over
+pub is_placed_over : (page : List ℕ) (start : ℕ) (old new : Node) (is : IsNode page start old) (middle end low place count at : ℕ) (cell : List ℕ) → place ≤ length is.cells → middle ≡ start + 8 + length (right_of old) + 2 * place
+    → end ≡ start + 8 + length (right_of old) + 2 * length is.cells → count ≡ length is.cells + 1 → at ≡ low - length cell → start + 8 + length (right_of old) + 2 * length is.cells + 2 + length cell ≤ low → low ≤ length page → low ≤ 2 ^ 16 → 0 < length cell
+    → length is.cells + 1 < 2 ^ 16 → AllByRecursion (λ span. low ≤ span.from) is.page_is.spans → code_of new ≡ code_of old → right_of new ≡ right_of old → Say (length page) (insert is.cells place cell) new
+    → IsPlaced page start (insert is.cells place cell) new (over_thrice page start middle end count at cell)
+is_placed_over page start old new is middle end low place count at cell le middle_is end_is count_is at_is room within near some few behind same last say =
+    let n = new_parts_over (code_of old) page start (right_of old) is.cells is.page_is middle end low place cell le middle_is end_is room within in
+    let whole : over_thrice page start middle end count at cell ≡ over_thrice page start middle end (length is.cells + 1) (low - length cell) cell =
+    ap (λ (m : ℕ). over_thrice page start middle end m at cell) count_is ∙ ap (λ (m : ℕ). over_thrice page start middle end (length is.cells + 1) m cell) at_is in
+    subst (IsPlaced page start (insert is.cells place cell) new) (sym whole)
+    (says page start old new is low place cell (over_thrice page start middle end (length is.cells + 1) (low - length cell) cell) n le room within near some few behind same last say)
 
 -- ---- the room
 

@@ -8,6 +8,8 @@ use Rattle.tree_page.specs.declared.items.Kind.{Kind}
 use Rattle.tree_page.specs.declared.items.Kind.TheVariants.{TableLeaf, TableInterior, IndexLeaf, IndexInterior}
 use Rattle.tree_page.specs.Bytes.{two_bytes}
 use Rattle.tree_page.specs.Node.{Node, IsNode, Say, code_of, right_of}
+use Rattle.tree_pack.specs.Replacing.{written_over}
+use Rattle.tree_pack.specs.declared.placing.CellRoom.{CellRoom}
 
 -- What stands before the page's header is what it was, and the page is as long as it was and says this with these cells.
 pub record IsPlaced (page : List ℕ) (start : ℕ) (cells : List (List ℕ)) (node : Node) (new : List ℕ) : Type 0 where
@@ -62,3 +64,26 @@ placed_of page start middle count low cell =
     ++ (pointer
     ++ (take (middle - (start + 7)) (drop (start + 7) page)
     ++ (pointer ++ (take (low - length cell - 2 - middle) (drop middle page) ++ (cell ++ drop low page))))))
+
+-- ---- the same page, written in its place
+
+-- On a page there is room for so many bytes, and for a pointer before those that come after it.
+pub record IsRoomOn (page : List ℕ) (start size : ℕ) (room : CellRoom) : Type 0 where
+  pub after : start + 8 ≤ room.pointer
+  pub upto : room.pointer ≤ room.end
+  pub between : room.end + 2 ≤ room.at
+  pub within : room.at + size ≤ length page
+
+-- the page with the cell, its pointer before those after it, and its count and first cell in the header
+abbrev pub placed_at : CellRoom → ℕ → List ℕ → List ℕ → List ℕ
+placed_at room start cell page =
+    let pointer = to_be_bytes w16 room.at in
+    let pointers = pointer ++ take (room.end - room.pointer) (drop room.pointer page) in
+    written_over (start + 3) (to_be_bytes w16 room.count ++ pointer) (written_over room.pointer pointers (written_over room.at cell page))
+
+-- Where a page says a node, and its cells with this one more say another of the same type and with the same last child, the page with the cell
+-- in this room says that one.
+abbrev pub PlacesAt : List ℕ → ℕ → ℕ → List ℕ → Option CellRoom → Type 0
+PlacesAt page start place cell found = (old new : Node) (is : IsNode page start old) → length page ≤ 2 ^ 16 → start ≤ 100 → place ≤ length is.cells
+    → code_of new ≡ code_of old → right_of new ≡ right_of old → Say (length page) (insert is.cells place cell) new
+    → IfSome found (λ room. IsPlaced page start (insert is.cells place cell) new (placed_at room start cell page))

@@ -19,7 +19,7 @@ pub use laws::{
     parts_are_filled, parts_are_well_filled, parts_lie_within, rows_are_joined, rows_are_parted,
     sides_are_joined,
 };
-pub use placing::place_cell;
+pub use placing::{CellRoom, place_cell, room_for};
 pub use rewriting::put_payload;
 pub use splicing::{join, splice};
 pub use spreading::{Packed, Piece, pack};

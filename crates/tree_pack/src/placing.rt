@@ -2,7 +2,7 @@
 
 ghost use Rattle.std.specs.Prelude.{◌≡◌, ◌≤◌, ◌<◌, ◌+◌, ◌*◌, ◌^◌, IfOk, IfErr, IfSome, length};
 ghost use Rattle.tree_page.specs.Node.{Node, IsNode};
-ghost use Rattle.tree_pack.specs.Placing.{Places, HasRoom, Lies, least_in, placed_of, right_width};
+ghost use Rattle.tree_pack.specs.Placing.{Places, PlacesAt, HasRoom, IsRoomOn, Lies, least_in, placed_of, right_width};
 
 use sqlval::{Fault, R};
 use std::alloc::{AllocError, Global};
@@ -27,18 +27,36 @@ fn stands_at(page: &[u8], at: usize, number: u16) -> bool {
     }
 }
 
+/// The number in two bytes, told by their values: in a loop the compiler then reads many at a time.
+fn number_of(high: u8, low: u8) -> u16
+    ensures value { result ≡ high * 256 + low }
+{
+    u16::from(high) * 256 + u16::from(low)
+}
+
+/// The least of this pointer and these others.
+fn least_from(first: u16, others: &[u8]) -> u16
+    ensures value { result ≡ least_in first others.now }
+{
+    let mut least = first;
+    let mut left = others;
+    'pointers: while let [high, low, after @ ..] = left {
+        least = least.min(number_of(*high, *low));
+        left = after;
+    }
+    least
+}
+
 /// The least of these pointers, or `most` if none is less.
 fn least_pointer(pointers: &[u8], most: usize) -> usize
     ensures value { result ≡ least_in most pointers.now }
     ensures within { result ≤ most }
 {
-    let mut least = most;
-    let mut left = pointers;
-    'pointers: while let [high, low, after @ ..] = left {
-        least = least.min(usize::from(u16::from_be_bytes([*high, *low])));
-        left = after;
-    }
-    least
+    let [high, low, others @ ..] = pointers else {
+        return most;
+    };
+    let least = least_from(number_of(*high, *low), others);
+    most.min(usize::from(least))
 }
 
 /// Where a cell has room.
@@ -80,6 +98,37 @@ fn find_room(page: &[u8], start: usize, size: usize) -> Option<Room>
         pointers,
         count,
         low,
+    })
+}
+
+/// Where a cell comes on a page with room for it.
+#[derive(Clone, Copy)]
+pub struct CellRoom {
+    /// Where its pointer comes, before those of the cells after it.
+    pub pointer: usize,
+    /// Where the pointers end before it comes.
+    pub end: usize,
+    /// How many cells there are then.
+    pub count: u16,
+    /// Where it begins.
+    pub at: u16,
+}
+
+/// Where this cell comes on a page, before which stand as many as `place` says, in the room between the pointers and the other cells. None as for
+/// `place_cell`.
+pub fn room_for(page: &[u8], start: usize, place: usize, cell: &[u8]) -> Option<CellRoom>
+    ensures room { IfSome result (IsRoomOn page.now start (length cell.now)) }
+    ensures placed { PlacesAt page.now start place cell.now result }
+{
+    let room = find_room(page, start, cell.len())?;
+    if room.count < place {
+        return None;
+    }
+    Some(CellRoom {
+        pointer: room.pointers + 2 * place,
+        end: room.pointers + 2 * room.count,
+        count: (room.count + 1) as u16,
+        at: (room.low - cell.len()) as u16,
     })
 }
 

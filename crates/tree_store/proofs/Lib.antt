@@ -8,3 +8,4 @@ pub mod RaisedPages
 pub mod StoredPages
 pub mod RootedPages
 pub mod Staying
+pub mod PlacedPages

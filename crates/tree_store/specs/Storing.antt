@@ -1,6 +1,6 @@
 -- Where the pages of a tree are stored, and what the page above gets for them.
-use Rattle.std.specs.Prelude.{◌≡◌, ◌⊎◌, ◌≤◌, ◌<◌, ◌^◌, ◌+◌, ℕ, List, [], ◌∷◌, ◌++◌, length, take, map, ⊤, Result, MatchResult}
-use Rattle.std.specs.List.{AllByRecursion}
+use Rattle.std.specs.Prelude.{◌≡◌, ◌⊎◌, ◌≤◌, ◌<◌, ◌^◌, ◌+◌, ℕ, Bool, false, true, List, [], ◌∷◌, ◌++◌, length, take, map, ⊤, Result, MatchResult}
+use Rattle.std.specs.List.{AllByRecursion, insert}
 use Rattle.std.specs.Int.{w32, to_be_bytes}
 use Rattle.sqlval.specs.Faults.{IsOutside}
 use Rattle.sqlval.specs.declared.fault.Fault.{Fault}
@@ -12,8 +12,10 @@ use Rattle.freelist.specs.Calls.{AreFree, HasFree, KeepsHeader}
 use Rattle.tree_page.specs.Cells.{Pairwise, IsTreePage}
 use Rattle.tree_page.specs.Reading.{type_of}
 use Rattle.tree_page.specs.declared.items.Kind.{Kind}
+use Rattle.tree_page.specs.Node.{Node, IsNode, Say, code_of, right_of}
 use Rattle.tree_pack.specs.Building.{right_room}
 use Rattle.tree_pack.specs.Parts.{total}
+use Rattle.tree_pack.specs.Placing.{IsPlaced}
 use Rattle.tree_pack.specs.Packing.{images, divider_bytes}
 use Rattle.tree_pack.specs.declared.spreading.Packed.{Packed}
 use Rattle.tree_store.specs.declared.storing.Fan.{Fan}
@@ -36,6 +38,20 @@ pub record CanStand (map : PageMap) (size number : ℕ) (bytes : List ℕ) : Typ
 abbrev pub Rewrites : PageMap → PageMap → ℕ → ℕ → List ℕ → Result ⊤ Fault → Type 0
 Rewrites old new size number bytes result = (free : List ℕ) → AreFree old size free → Has old number → occurs number free ≡ 0
     → CanStand old size number bytes → MatchResult result (λ done. IsRewritten old new size free number bytes) IsOutside
+
+-- At `true` the page says the node with these cells then, and what is used and free is so still; at `false` nothing has changed.
+abbrev pub IsPlacedOn : PageMap → PageMap → ℕ → List ℕ → ℕ → List (List ℕ) → Node → Bool → Type 0
+IsPlacedOn old new size free number cells node false = new ≡ old
+IsPlacedOn old new size free number cells node true =
+    (image : List ℕ) × IsPlaced (page_at old number) (start_of number) cells node image × IsRewritten old new size free number image
+
+-- Where a page that isn't free says a node, and its cells with this one more say another of the same type and with the same last child, the page
+-- says that one then, or has no room for the cell; or memory was short, or a disk's call failed.
+abbrev pub PlacesOn : PageMap → PageMap → ℕ → ℕ → ℕ → List ℕ → Result Bool Fault → Type 0
+PlacesOn old new size number place cell result = (free : List ℕ) → AreFree old size free → Has old number → occurs number free ≡ 0
+    → (was now : Node) (is : IsNode (page_at old number) (start_of number) was) → size ≤ 2 ^ 16 → place ≤ length is.cells
+    → code_of now ≡ code_of was → right_of now ≡ right_of was → Say size (insert is.cells place cell) now
+    → MatchResult result (IsPlacedOn old new size free number (insert is.cells place cell) now) IsOutside
 
 -- ---- pages side by side
 

@@ -1,21 +1,21 @@
 //! Storing the pages of a tree.
 
-ghost use Rattle.std.specs.Prelude.{◌≡◌, ◌≤◌, ◌++◌, [], ◌∷◌, take, map, length, true, IsTrue, IfOk, IfErr, MatchResult};
-ghost use Rattle.std.specs.Int.{w32, to_be_bytes};
+ghost use Rattle.std.specs.Prelude.{◌≡◌, ◌≤◌, ◌-◌, ◌++◌, [], ◌∷◌, drop, take, map, length, true, IsTrue, IfOk, IfErr, MatchResult};
+ghost use Rattle.std.specs.Int.{w16, w32, to_be_bytes};
 ghost use Rattle.sqlval.specs.Faults.{IsOutside};
 ghost use Rattle.pages.specs.Calls.{Causes, Stays};
 ghost use Rattle.pages.specs.Counting.{start_of};
 ghost use Rattle.pages.specs.Map.{page_at, IsThere};
 ghost use Rattle.tree_pack.specs.Building.{right_room};
 ghost use Rattle.tree_pack.specs.Packing.{images};
-ghost use Rattle.tree_store.specs.Storing.{Rewrites, Stores, Roots, cells_over, cells_of};
+ghost use Rattle.tree_store.specs.Storing.{PlacesOn, Rewrites, Stores, Roots, cells_over, cells_of};
 ghost use Rattle.tree_store.specs.Steps.{TakesMore, WritesAll, GivesAll, Raises};
 
 use freelist::{give, take};
 use pages::WritePages;
 use sqlval::{Damage, Fault, R};
 use std::alloc::Global;
-use tree_pack::{Packed, Piece, build, fits};
+use tree_pack::{CellRoom, Packed, Piece, build, fits, room_for};
 use tree_page::Kind;
 
 /// What an interior page gets for pages side by side.
@@ -36,6 +36,57 @@ pub fn put_node<P: WritePages>(pages: &mut P, number: u32, bytes: &[u8]) -> R<()
     ensures causes { Causes result (P.Pages.failures pages.old) (P.Pages.failures pages.new) ⊥ }
 {
     pages.put(number, bytes)
+}
+
+/// The pointer of a cell that comes, and those after it. (`Memory`.)
+fn pointers_with(alloc: Global, room: CellRoom, page: &[u8]) -> R<Vec<u8>>
+    requires within { room.end ≤ length page.now }
+    requires upto { room.pointer ≤ room.end }
+    ensures are { IfOk result (λ pointers. pointers.items ≡ to_be_bytes w16 room.at
+        ++ take (room.end - room.pointer) (drop room.pointer page.now)) }
+    ensures refused { IfErr result (λ fault. fault ≡ Fault.Memory) }
+{
+    let mut pointers = Vec::with_capacity(alloc, room.end - room.pointer + 2)?;
+    pointers.extend_from_slice(&room.at.to_be_bytes())?;
+    pointers.extend_from_slice(&page[room.pointer..room.end])?;
+    Ok(pointers)
+}
+
+/// What a page's header says of its cells: how many there are, and where the first begins.
+fn counted(room: CellRoom) -> [u8; 4]
+    ensures { result ≡ to_be_bytes w16 room.count ++ to_be_bytes w16 room.at }
+{
+    let [high, low] = room.count.to_be_bytes();
+    let [first, second] = room.at.to_be_bytes();
+    [high, low, first, second]
+}
+
+/// Puts a cell on a page, before which stand as many as `place` says, if there is room for it without moving any. Answers whether there was;
+/// if not, nothing changes. (`Memory`, and what `load` and `write_over` refuse.)
+pub fn place_on<P: WritePages>(
+    alloc: Global,
+    pages: &mut P,
+    number: u32,
+    place: usize,
+    cell: &[u8],
+) -> R<bool>
+    ensures placed { IsTrue (P.Pages.tells (P.Pages.below pages.old))
+        → PlacesOn (P.Pages.map pages.old) (P.Pages.map pages.new)
+        (P.Pages.limits (P.Pages.below pages.old)).page number place cell.now result }
+    ensures kept { P.Pages.below pages.new ≡ P.Pages.below pages.old }
+    ensures causes { Causes result (P.Pages.failures pages.old) (P.Pages.failures pages.new) ⊥ }
+{
+    pages.load(number)?;
+    let page = pages.loaded();
+    let start = start_at(number);
+    let Some(room) = room_for(page, start, place, cell) else {
+        return Ok(false);
+    };
+    let pointers = pointers_with(alloc, room, page)?;
+    pages.write_over(number, usize::from(room.at), cell)?;
+    pages.write_over(number, room.pointer, pointers.as_slice())?;
+    pages.write_over(number, start + 3, &counted(room))?;
+    Ok(true)
 }
 
 /// These numbers, and behind them those of pages that are taken, until there are `count`. (`Memory`, and what `take` refuses.)

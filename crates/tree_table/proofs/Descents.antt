@@ -1,5 +1,5 @@
 -- The way to a rowid, from a page of a tree on.
-use Rattle.std.proofs.Common.{◌≡◌, ◌≤◌, ◌<◌, ℕ, zero, suc, ℤ, pos, Bool, true, false, nat_eq, length, slice_index_or, IsTrue, List, [], ◌∷◌, map, take, Option, None, refl, sym, ap, subst, ◌∙◌, inl, arith}
+use Rattle.std.proofs.Common.{◌≡◌, ◌≤◌, ◌<◌, ℕ, zero, suc, ℤ, pos, Bool, true, false, nat_eq, length, slice_index_or, IsTrue, List, [], ◌∷◌, map, take, Option, None, Some, refl, sym, ap, subst, ◌∙◌, inl, arith}
 use Rattle.std.proofs.lemmas.Grind.{common_steps}
 use Rattle.std.specs.Prelude.{Result, Ok, Err, MatchResult}
 use Rattle.sqlval.specs.declared.fault.Fault.{Fault}
@@ -103,17 +103,23 @@ is_more n e = grind (arith, common_steps)
 deep_leaf : (ways : ℕ) → IsDeep ways zero (nat_eq ways 0)
 deep_leaf ways = record { full = λ e. is_zero ways e; short = λ e. is_more ways e }
 
+-- what becomes of the leaf
+abbrev pub here_change : ℕ → Option Packed → Change
+here_change ways None = Same
+here_change ways (Some packed) = Spread packed (nat_eq ways 0)
+
 pub step_here : (old new : PageMap) (size number ways place : ℕ) (row : Entry) (depth : ℕ) (low : ℤ) (t : Tree depth) (high : ℤ) (free : List ℕ) → IsUnder old size number ways row.rowid depth low t high free
-    → StepsFrom old size number row.rowid (Ok (Here place)) → (result : Result Packed Fault) → PlansLeaf old new size number place row result
-    → MatchResult result (λ packed. IsChanged old new size number ways row depth low t high free (Spread packed (nat_eq ways 0))) IsOutsideOrFull
+    → StepsFrom old size number row.rowid (Ok (Here place)) → (result : Result (Option Packed) Fault) → PlansLeaf old new size number place row result
+    → MatchResult result (λ answer. IsChanged old new size number ways row depth low t high free (here_change ways answer)) IsOutsideOrFull
 step_here old new size number ways place row zero low t high free under steps result plans = by result plans
   where
     is : (payload_at row.rowid (rows_of zero t) ≡ None) × (place ≡ below row.rowid (ids_of t.rows))
     is = leaf_here old size number ways row.rowid low t high free under place steps
 
-    by : (result : Result Packed Fault) → PlansLeaf old new size number place row result
-        → MatchResult result (λ packed. IsChanged old new size number ways row zero low t high free (Spread packed (nat_eq ways 0))) IsOutsideOrFull
-    by (Ok packed) plans = (is.0, local_wider row.rowid row.rowid row.rowid high (with_row row) (same_le row.rowid) under.upto (with_local row), deep_leaf ways, plans ways low t high free under is.0 is.1)
+    by : (result : Result (Option Packed) Fault) → PlansLeaf old new size number place row result
+        → MatchResult result (λ answer. IsChanged old new size number ways row zero low t high free (here_change ways answer)) IsOutsideOrFull
+    by (Ok None) plans = (is.0, local_wider row.rowid row.rowid row.rowid high (with_row row) (same_le row.rowid) under.upto (with_local row), plans ways low t high free under is.0 is.1)
+    by (Ok (Some packed)) plans = (is.0, local_wider row.rowid row.rowid row.rowid high (with_row row) (same_le row.rowid) under.upto (with_local row), deep_leaf ways, plans ways low t high free under is.0 is.1)
     by (Err fault) plans = plans ways low t high free under is.0 is.1
 step_here old new size number ways place row (suc depth) low t high free under steps result plans = absurd (inner_step old size number ways row.rowid depth low t high free under (Ok (Here place)) steps)
 

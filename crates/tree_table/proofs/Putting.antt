@@ -1,22 +1,28 @@
 -- A row is put into a leaf.
-use Rattle.std.proofs.Common.{◌≡◌, ◌≤◌, ◌+◌, ◌-◌, ◌^◌, ◌==◌, ℕ, zero, ℤ, pos, List, [], ◌∷◌, length, map, take, None, refl, sym, subst, ◌∙◌, inl, arith}
+use Rattle.std.proofs.Common.{◌≡◌, ◌≤◌, ◌+◌, ◌-◌, ◌^◌, ◌==◌, ℕ, zero, ℤ, pos, List, [], ◌∷◌, length, map, take, None, refl, sym, ap, subst, ◌∙◌, inl, arith}
 use Rattle.std.proofs.lemmas.Grind.{common_steps}
 use Rattle.std.proofs.lemmas.List.{length-map, length-take-le}
 use Rattle.std.specs.List.{AllByRecursion}
-use Rattle.std.specs.Prelude.{Result, Ok, Err, MatchResult}
+use Rattle.std.specs.Prelude.{Bool, false, true, Result, Ok, Err, MatchResult}
 use Rattle.sqlval.specs.declared.fault.Fault.{Fault}
+use Rattle.sqlval.specs.Faults.{IsOutside}
 use Rattle.tree_leaf.specs.Leaf.{Entry}
 use Rattle.pages.specs.Calls.{IsOutsideOrFull}
-use Rattle.pages.specs.Counting.{start_of, Moves}
+use Rattle.pages.specs.Counting.{occurs, start_of, Moves}
+use Rattle.pages.specs.Laws.{IsJoined}
 use Rattle.pages.specs.Map.{PageMap, page_at, Has, AreWhole}
+use Rattle.pages.proofs.Moving.{in_sequence, occurs_append}
+use Rattle.freelist.specs.Calls.{AreFree}
+use Rattle.freelist.proofs.Lists.{occurs_self}
 use Rattle.tree_page.specs.Cells.{Pairwise}
-use Rattle.tree_page.specs.Node.{Local, Rows, IsNode, IsRowCell}
+use Rattle.tree_page.specs.Node.{Local, Rows, IsNode, IsRowCell, Say}
 use Rattle.tree_page.specs.Payload.{table_most}
 use Rattle.tree_page.specs.Reading.{below}
 use Rattle.tree_page.specs.declared.items.Kind.TheVariants.{TableLeaf}
 use Rattle.tree_page.proofs.HeaderLemmas.{same_length}
 use Rattle.tree_page.proofs.Places.{below_within}
 use Rattle.tree_overflow.specs.Calls.{IsWritten}
+use Rattle.tree_overflow.proofs.Laying.{keeps_then}
 use Rattle.tree_pack.specs.Building.{cell_room}
 use Rattle.tree_pack.specs.Lists.{row_parts}
 use Rattle.tree_pack.specs.Packing as packing
@@ -29,15 +35,17 @@ use Rattle.tree_pack.proofs.RowLemmas.{cut_within}
 use Rattle.tree_pack.proofs.SmallLemmas.{row_small}
 use Rattle.tree_pack.proofs.Splices.{pairwise_spliced}
 use Rattle.tree_store.specs.Saying.{Says}
-use Rattle.tree_table.specs.Growing.{below_of, IsTop, all_of, IsPlanned, IsUnder}
+use Rattle.tree_store.specs.Storing.{IsPlacedOn, PlacesOn}
+use Rattle.tree_store.proofs.PutPages.{put_there}
+use Rattle.tree_table.specs.Growing.{below_of, IsTop, all_of, IsPlanned, IsPut, IsUnder}
 use Rattle.tree_table.specs.Rows.{payload_at, with_row}
 use Rattle.tree_table.specs.Tree.{Held, IsHeldAs, IsLeaf, Leaf, rows_of, pages_of}
 use Rattle.tree_table.proofs.Few.{few_parts, large_size}
 use Rattle.tree_table.proofs.Leaves.{chains_of, cut_leaf, put_chains}
 use Rattle.tree_table.proofs.Orders.{ids_of, put_in, put_spliced, leaf_with, leaf_rises}
-use Rattle.tree_table.proofs.Passing.{beside_used, others_seen}
+use Rattle.tree_table.proofs.Passing.{after, beside_used, once_after, others_seen, tree_up, up_none}
 use Rattle.tree_pack.proofs.Rooms.{cells_fit}
-use Rattle.tree_table.proofs.Staying.{lies_stays}
+use Rattle.tree_table.proofs.Staying.{lies_stays, rows_stay}
 use Rattle.tree_table.proofs.Starts.{are_counted, rows_counted, begins_same, no_counts, front_alone}
 use Rattle.tree_table.proofs.Sums.{room_added}
 
@@ -86,6 +94,25 @@ module _ (old mid : PageMap) (size number ways : ℕ) (row : Entry) (low : ℤ) 
   held_rows = subst (λ (xs : List Held). Pairwise (IsHeldAs mid size) said xs) (sym (put_spliced place new_row t.rows))
       (pairwise_spliced (IsHeldAs mid size) place 0 leaf_mid.said ((row.rowid, local) ∷ []) t.rows (new_row ∷ []) leaf_mid.rows (record { rowid = refl; size = refl; payload = w.is }, tt))
 
+  -- ---- what is used and free
+
+  first_moves : Moves old mid (pages_of zero t) free (t.page ∷ chains_of rows) w.now_free
+  first_moves = beside_used old mid [] free w.chain w.now_free (pages_of zero t) (pages_of zero t) (t.page ∷ chains_of rows) w.moves (λ n. omega arith)
+      (λ n. (let put = put_chains n place new_row t.rows in omega (arith, put)))
+
+  once_mid : (n : ℕ) → occurs n (t.page ∷ chains_of rows) + occurs n w.now_free ≤ 1
+  once_mid = once_after old mid size (pages_of zero t) free (t.page ∷ chains_of rows) w.now_free under.free_are first_moves (tree_up old size zero t under.lies) under.apart
+
+  -- the leaf's page, with the chains of its rows
+  joined : IsJoined (number ∷ []) (chains_of rows) (t.page ∷ chains_of rows)
+  joined n = (let same = ap (λ (m : ℕ). occurs n (m ∷ chains_of rows)) under.top_is in let both = occurs_append n (number ∷ []) (chains_of rows) in omega (arith, same, both))
+
+  pub free_mid : AreFree mid size w.now_free
+  free_mid = (after old mid size [] free w.chain w.now_free under.free_are w.moves w.has (up_none (length old)) (λ n. (let once = under.apart n in omega (arith, once))) refl).are
+
+  pub unfree_mid : occurs number w.now_free ≡ 0
+  unfree_mid = (let once = once_mid number in let both = joined number in let self = occurs_self number in omega (arith, once, both, self))
+
   module _ (cell : List ℕ) (is_cell : IsRowCell size cell (row.rowid, local)) where
     node : IsNode (page_at mid number) (start_of number) (Rows leaf_mid.said)
     node = says_mid.node_is
@@ -103,6 +130,56 @@ module _ (old mid : PageMap) (size number ways : ℕ) (row : Entry) (low : ℤ) 
       say = pairwise_spliced (IsRowCell (length (page_at mid number))) place 0 node.cells (cell ∷ []) leaf_mid.said ((row.rowid, local) ∷ []) node.say
           (subst (λ (n : ℕ). IsRowCell n cell (row.rowid, local)) (sym long_mid) is_cell, tt);
     }
+
+    -- ---- the row in its place
+
+    say_put : Say size (put_in place cell node.cells) (Rows said)
+    say_put = subst (λ (cells : List (List ℕ)). Pairwise (IsRowCell size) cells said) (sym (put_spliced place cell node.cells))
+        (subst (λ (n : ℕ). Pairwise (IsRowCell n) (spliced place 0 (cell ∷ []) node.cells) said) long_mid cells_say.say)
+
+    -- the leaf's page has the row now
+    leaf_put : (new : PageMap) → IsPlacedOn mid new size w.now_free number (put_in place cell node.cells) (Rows said) true
+        → IsPut old new size number zero low high (with_row row (rows_of zero t)) (pages_of zero t) free
+    leaf_put new (image, placed, rewritten) =
+        let moves = rewritten.moves in
+        let whole_now = moves.whole size whole_mid in
+        let has : Has new number = record { first = there_mid.first; last = (let last = there_mid.last in let longer = moves.longer in omega (arith, last, longer)) } in
+        let bytes : page_at new number ≡ image = ap (λ (m : PageMap). page_at m number) rewritten.is ∙ put_there mid number image there_mid in
+        let says : Says new number (Rows said) = record { has = has; node_is = subst (λ (l : List ℕ). IsNode l (start_of number) (Rows said)) (sym bytes) placed.is } in
+        let unused : (n : ℕ) → 1 ≤ occurs n (chains_of rows) → occurs n (number ∷ []) + occurs n w.now_free ≡ 0 = λ n some. (let once = once_mid n in let both = joined n in omega (arith, once, both, some)) in
+        record {
+          tree = record { page = t.page; rows = rows };
+          top_is = under.top_is;
+          lies = record {
+            said = said;
+            says = subst (λ (n : ℕ). Says new n (Rows said)) (sym under.top_is) says;
+            rows = rows_stay mid new moves.longer size said rows (others_seen mid new (number ∷ []) w.now_free (number ∷ []) w.now_free (chains_of rows) moves unused) held_rows;
+          };
+          sorted = leaf_rises new_row low t.rows high under.above under.upto absent under.sorted;
+          rows_are = sym (leaf_with new_row t.rows absent);
+          now_free = w.now_free;
+          has = rewritten.has;
+          moves = in_sequence old mid new (pages_of zero t) free (t.page ∷ chains_of rows) w.now_free (t.page ∷ chains_of rows) w.now_free first_moves
+              (beside_used mid new (number ∷ []) w.now_free (number ∷ []) w.now_free (chains_of rows) (t.page ∷ chains_of rows) (t.page ∷ chains_of rows) moves joined joined);
+          header = keeps_then old mid new w.header rewritten.header;
+        }
+
+    -- the cell is put on the leaf's page, or nothing changes
+    leaf_places : (new : PageMap) (result : Result Bool Fault) → PlacesOn mid new size number place cell result
+        → MatchResult result (IsPlacedOn mid new size w.now_free number (put_in place cell node.cells) (Rows said)) IsOutside
+    leaf_places new result places = places w.now_free free_mid there_mid unfree_mid (Rows leaf_mid.said) (Rows said) node (large_size size under.sized).1 within refl refl say_put
+
+    pub leaf_placed : (new : PageMap) → PlacesOn mid new size number place cell (Ok true)
+        → IsPut old new size number zero low high (with_row row (rows_of zero t)) (pages_of zero t) free
+    leaf_placed new places = leaf_put new (leaf_places new (Ok true) places)
+
+    pub leaf_unplaced : (new : PageMap) → PlacesOn mid new size number place cell (Ok false) → new ≡ mid
+    leaf_unplaced new places = leaf_places new (Ok false) places
+
+    pub leaf_refused : (new : PageMap) (fault : Fault) → PlacesOn mid new size number place cell (Err fault) → IsOutside fault
+    leaf_refused new fault places = leaf_places new (Err fault) places
+
+    -- ---- pages in its place
 
     abbrev Packs_now : Packed → Type 0
     Packs_now packed = Packs TableLeaf (length (page_at mid number)) (take (start_of number) (page_at mid number)) (place + 0 == length node.cells) (spliced place 0 (cell ∷ []) node.cells) (Rows said) packed

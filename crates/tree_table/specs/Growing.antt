@@ -1,6 +1,6 @@
 -- How a row is put into a table's tree or taken out of it: what becomes of the page at the top of a subtree.
 use Rattle.std.specs.Prelude.{◌≡◌, ◌≤◌, ◌<◌, ◌+◌, ℕ, zero, suc, ℤ, ◌<ℤ◌, ◌≤ℤ◌, Bool}
-use Rattle.std.specs.Prelude.{true, false, List, [], ◌∷◌, length, map, take, Option, None, Result, MatchResult}
+use Rattle.std.specs.Prelude.{true, false, List, [], ◌∷◌, length, map, take, Option, None, Some, Result, MatchResult}
 use Rattle.std.specs.List.{AllByRecursion, flat_map}
 use Rattle.sqlval.specs.declared.fault.Fault.{Fault}
 use Rattle.sqlval.specs.PageSizes.{IsPageSize}
@@ -134,12 +134,18 @@ Edits Skips Acts old new size number ways rowid edit result = (depth : ℕ) (low
 abbrev pub Changes : PageMap → PageMap → ℕ → ℕ → ℕ → Entry → Result Change Fault → Type 0
 Changes old new size number ways row = Edits IsThereAt IsNotAt old new size number ways row.rowid (with_row row)
 
--- where a leaf has no row of the rowid, and the place is that of the row, packed pages have to take its place
-abbrev pub PlansLeaf : PageMap → PageMap → ℕ → ℕ → ℕ → Entry → Result Packed Fault → Type 0
+-- the leaf has the row too; or packed pages have to take its place
+abbrev pub IsPutOrPlanned : PageMap → PageMap → ℕ → ℕ → Entry → ℤ → Leaf → ℤ → List ℕ → Option Packed → Type 0
+IsPutOrPlanned old new size number row low t high free None = IsPut old new size number zero low high (with_row row (rows_of zero t)) (pages_of zero t) free
+IsPutOrPlanned old new size number row low t high free (Some packed) =
+    IsPlanned old new size number zero low high (with_row row (rows_of zero t)) (below_of zero t) free packed
+
+-- where a leaf has no row of the rowid, and the place is that of the row, it is put in, or packed pages have to take the leaf's place
+abbrev pub PlansLeaf : PageMap → PageMap → ℕ → ℕ → ℕ → Entry → Result (Option Packed) Fault → Type 0
 PlansLeaf old new size number place row result = (ways : ℕ) (low : ℤ) (t : Leaf) (high : ℤ) (free : List ℕ)
     → IsUnder old size number ways row.rowid zero low t high free → payload_at row.rowid (rows_of zero t) ≡ None
     → place ≡ below row.rowid (map (λ held. held.row.rowid) t.rows)
-    → MatchResult result (IsPlanned old new size number zero low high (with_row row (rows_of zero t)) (below_of zero t) free) IsOutsideOrFull
+    → MatchResult result (IsPutOrPlanned old new size number row low t high free) IsOutsideOrFull
 
 -- ---- the page above
 

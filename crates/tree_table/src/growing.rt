@@ -15,7 +15,7 @@ use std::alloc::Global;
 use tree_overflow::write_payload;
 use tree_pack::{Packed, row_cell, splice};
 use tree_page::TreePage;
-use tree_store::{Fan, store};
+use tree_store::{Fan, place_on, store};
 
 /// What becomes of a page into whose tree a row is put, or out of which one is taken.
 #[derive(Drop)]
@@ -28,15 +28,16 @@ pub(crate) enum Change {
     Spread(Packed, bool),
 }
 
-/// The pages that a leaf gives way to when a row is put at a place of it. Its payload is written, the pages aren't.
-fn packed_leaf<P: WritePages>(
+/// Puts a row at a place of a leaf, where that has room for it; else answers the pages that the leaf gives way to. The row's payload is written, these
+/// pages aren't.
+fn leaf_with<P: WritePages>(
     alloc: Global,
     pages: &mut P,
     number: u32,
     place: usize,
     rowid: i64,
     payload: &[u8],
-) -> R<Packed>
+) -> R<Option<Packed>>
     ensures planned { IsTrue (P.Pages.tells (P.Pages.below pages.old))
         → PlansLeaf (P.Pages.map pages.old) (P.Pages.map pages.new)
         (P.Pages.limits (P.Pages.below pages.old)).page number place
@@ -48,16 +49,14 @@ fn packed_leaf<P: WritePages>(
     let most = pages.page_size().saturating_sub(35);
     let held = write_payload(alloc, pages, most, payload)?;
     let cell = row_cell(alloc, rowid, payload.len() as u64, held.as_slice())?;
+    if place_on(alloc, pages, number, place, cell.as_slice())? {
+        return Ok(None);
+    }
     pages.load(number)?;
-    splice(
-        alloc,
-        pages.loaded(),
-        start_of(number),
-        place,
-        0,
-        &[cell.as_slice()],
-        None,
-    )
+    let start = start_of(number);
+    let cells = [cell.as_slice()];
+    let packed = splice(alloc, pages.loaded(), start, place, 0, &cells, None)?;
+    Ok(Some(packed))
 }
 
 /// The cell with this child in place of its own.
@@ -164,7 +163,9 @@ pub(crate) fn packed_below<P: WritePages>(
     let (place, child) = match step_from(pages, number, rowid)? {
         Step::Found(_) => return Ok(Change::Still),
         Step::Here(place) => {
-            let packed = packed_leaf(alloc, pages, number, place, rowid, payload)?;
+            let Some(packed) = leaf_with(alloc, pages, number, place, rowid, payload)? else {
+                return Ok(Change::Same);
+            };
             return Ok(Change::Spread(packed, ways == 0));
         }
         Step::Down(place, child) => (place, child),

@@ -1,4 +1,5 @@
-use Rattle.std.proofs.Common.{◌≡◌, ◌∙◌, false, sym, subst, ℕ, List, map, Ok, Err}
+use Rattle.std.proofs.Common.{rules, ◌≡◌, ◌∙◌, false, sym, subst, ℕ, List, map, None, Ok, Err}
+use Rattle.std.specs.List.{AllByRecursion}
 use Rattle.std.specs.Prelude.{IfSome}
 use Rattle.catalog.specs.declared.tables.Index.{Index}
 use Rattle.catalog.specs.declared.tables.TableRow.{TableRow}
@@ -6,8 +7,9 @@ use Rattle.pages.specs.Map.{PageMap}
 use Rattle.row_change.specs.Agreement.{has_unique}
 use Rattle.row_change.specs.Keeping.{KeepsAll}
 use Rattle.index_entries.specs.Keeping.{row_in}
-use Rattle.db_write.specs.Kept.{SeeAlone, SeeApart}
-use Rattle.db_write.proofs.KeptAlone.{finds_alone, finds_apart, finds_free, finds_unread, finds_unseen}
+use Rattle.query_terms.specs.Values.{Row}
+use Rattle.db_write.specs.Kept.{KeysRise, SeeAlone, SeeApart}
+use Rattle.db_write.proofs.KeptAlone.{finds_alone, finds_apart, finds_free, finds_risen, finds_unread, finds_unseen}
 use Rattle.db_write.proofs.Looping.{after_reading}
 use Rattle.db_write.proofs.updating.changes_alone.Goals as goal
 
@@ -21,6 +23,19 @@ returns-then-not-has_unique-clause-found g c = λ told.
     let keeps = subst (λ found. IfSome found (λ changes. KeepsAll table sets condition rows changes.items)) c.in-Some.is c.in_ok-changes.ensures.kept in
     let none : has_unique table ≡ false = sym c.has_unique.ensures ∙ c.if-not-has_unique.true in
     finds_free (pages.map c.args.pages.now) (pages.limits (pages.below c.args.pages.now)).page table condition sets rows c.kept_rows_stay_alone.ensures c.in-Some.changes keeps none)
+
+pub returns-then-keys_rise-clause-found : goal.returns-then-keys_rise-clause-found
+returns-then-keys_rise-clause-found g c = λ told.
+    (let pages = g.P.Pages in
+    let table = c.args.table.now in
+    let condition = c.args.condition.now in
+    let sets = c.args.sets.now in
+    let rows = c.args.rows.now in
+    let keeps = subst (λ found. IfSome found (λ changes. KeepsAll table sets condition rows changes.items)) c.in-Some.is c.in_ok-changes.ensures.kept in
+    let none : condition ≡ None = search rules in
+    let rise = subst (λ (them : List Row). AllByRecursion (KeysRise them) table.indexes) c.as_slice.ensures
+    (subst (λ (indexes : List Index). AllByRecursion (KeysRise c.as_slice.result.now) indexes) c.as_slice-indexes.ensures (c.keys_rise.ensures c.if-keys_rise.true)) in
+    finds_risen (pages.map c.args.pages.now) (pages.limits (pages.below c.args.pages.now)).page table condition sets rows c.kept_rows_stay_alone.ensures c.in-Some.changes keeps none rise)
 
 pub returns-in_err-all_keys_are_apart-clause-found : goal.returns-in_err-all_keys_are_apart-clause-found
 returns-in_err-all_keys_are_apart-clause-found g c = λ told.

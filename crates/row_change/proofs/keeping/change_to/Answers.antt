@@ -15,8 +15,8 @@ pub record_of-requires : goal.record_of-requires
 record_of-requires c =
     let values = map value_of c.args.fields.now.items in
     let given : AreStoredAsGiven (map as_column c.as_slice.result.now) (map value_of c.deref.result.now) = c.if-not-store_as_given.ensures refl in
-    let here = subst (λ fields. AreStoredAsGiven (map as_column c.as_slice.result.now) (map value_of fields)) c.deref.ensures.value given in
-    subst AreStorable (sym (ap (map value_of) c.deref-2.ensures.value ∙ c.hide_own.ensures)) (hidden_storable c.own_column-own.result values here.fit)
+    let here = subst (λ fields. AreStoredAsGiven (map as_column c.as_slice.result.now) (map value_of fields)) c.deref.ensures given in
+    subst AreStorable (sym (ap (map value_of) c.deref-2.ensures ∙ c.hide_own.ensures)) (hidden_storable c.own_column-own.result values here.fit)
 
 pub returns : goal.returns
 returns c =
@@ -27,12 +27,12 @@ returns c =
     let word : to_z w64 (of_z w64 rowid) ≡ rowid = to_z-of_z w64 rowid fits in
     let own = c.own_column-own.ensures in
     let given : AreStoredAsGiven (map as_column c.as_slice.result.now) (map value_of c.deref.result.now) = c.if-not-store_as_given.ensures refl in
-    let here = subst (λ fields. AreStoredAsGiven (map as_column c.as_slice.result.now) (map value_of fields)) c.deref.ensures.value given in
+    let here = subst (λ fields. AreStoredAsGiven (map as_column c.as_slice.result.now) (map value_of fields)) c.deref.ensures given in
     let stored = subst (λ columns. AreStoredAsGiven (map as_column columns) values) c.as_slice.ensures here in
     let has : rowid_left c.own_column-own.result (to_z w64 (of_z w64 rowid)) (map value_of c.deref-else-not-store_as_given.result.now) ≡ Ok (to_z w64 (of_z w64 rowid)) = c.if-not-has_own.ensures refl in
     let left = subst (λ n. rowid_left (own_column table) n values ≡ Ok n) word
     (subst (λ o. rowid_left o (to_z w64 (of_z w64 rowid)) values ≡ Ok (to_z w64 (of_z w64 rowid))) own
-    (subst (λ fields. rowid_left c.own_column-own.result (to_z w64 (of_z w64 rowid)) (map value_of fields) ≡ Ok (to_z w64 (of_z w64 rowid))) c.deref-else-not-store_as_given.ensures.value has)) in
+    (subst (λ fields. rowid_left c.own_column-own.result (to_z w64 (of_z w64 rowid)) (map value_of fields) ≡ Ok (to_z w64 (of_z w64 rowid))) c.deref-else-not-store_as_given.ensures has)) in
     change_made table rowid (to_z w64 (of_z w64 rowid)) values (map value_of c.deref-2.result.now) c.in_ok-record_of.field-0 word
-    (ap (map value_of) c.deref-2.ensures.value ∙ (c.hide_own.ensures ∙ ap (λ o. in_record o values) own))
+    (ap (map value_of) c.deref-2.ensures ∙ (c.hide_own.ensures ∙ ap (λ o. in_record o values) own))
     c.in_ok-record_of.ensures.is c.in_ok-record_of.ensures.exact c.in_ok-record_of.ensures.fit (word_fits rowid fits) stored (nil_from_length table.checks c.requires) left

@@ -20,9 +20,10 @@ returns c =
     c.in-Some.ensures.lookup.3.1 none ∙ (ap (λ (them : List Row). slice_index_or them c.args.place.now none) c.as_slice.ensures ∙ sym (unwrap_or-slice_get c.args.rows.now c.args.place.now none)) in
     let picked = c.env_at-env.ensures ∙ ap (λ places. env_of (picked_rows (c.args.rows.now ∷ []) places)) (c.as_slice-2.ensures ∙ c.one.ensures) in
     let answer : values (env_of (row ∷ [])) (map (λ s. s.1) sets) ≡ Ok given = subst (λ env. values env (map (λ s. s.1) sets) ≡ Ok given) picked c.in_ok-give_values.ensures in
-    let are : map value_of c.put_given.new.fields.items ≡ set_values row.values (zip (map (λ s. s.0) sets) given) =
-    c.put_given.ensures ∙ (ap (λ ds. set_values (map value_of c.in_ok-fields.fields.items) (zip (map (λ s. s.0) sets) (map datum ds))) c.as_slice-3.ensures.value
-    ∙ ap (λ vs. set_values vs (zip (map (λ s. s.0) sets) given)) (c.in_ok-fields.ensures ∙ ap (λ r. r.values) same)) in
-    let rowid = c.rowid_at.result in
+    let values = set_values c.in-Some.row.now.values (zip (map (λ s. s.0) sets) (map datum c.as_slice-values.result.now)) in
+    let are : values ≡ set_values row.values (zip (map (λ s. s.0) sets) given) =
+    ap (λ ds. set_values c.in-Some.row.now.values (zip (map (λ s. s.0) sets) (map datum ds))) c.as_slice-values.ensures.value
+    ∙ ap (λ (r : Row). set_values r.values (zip (map (λ s. s.0) sets) given)) same in
+    let rowid = c.rowid_at-rowid.result in
     let fits : SFits w64 rowid = search rules in
-    change_kept c.args.table.now sets row given (map value_of c.put_given.new.fields.items) (to_z w64 (of_z w64 rowid)) c.change_to.result c.requires.apart answer (to_z-of_z w64 rowid fits ∙ c.rowid_at.ensures) are c.change_to.ensures
+    change_kept c.args.table.now sets row given values (to_z w64 (of_z w64 rowid)) c.change_with.result c.requires.apart answer (to_z-of_z w64 rowid fits ∙ c.rowid_at-rowid.ensures) are c.change_with.ensures

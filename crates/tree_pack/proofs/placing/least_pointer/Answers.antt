@@ -1,10 +1,8 @@
-use Rattle.std.proofs.Common.{◌∙◌, ap, min, arith}
-use Rattle.tree_pack.proofs.PlacingLemmas.{least_next}
+use Rattle.std.proofs.Common.{◌∙◌, ap, min}
+use Rattle.tree_pack.proofs.PlacingLemmas.{least_some}
 use Rattle.tree_pack.proofs.placing.least_pointer.Goals as goal
 
-pub pointers-preserved : goal.pointers-preserved
-pointers-preserved c =
-    let before = c.pointers.invariant in
-    let within = before.within in
-    let next = least_next c.pointers.least c.min-least.result _ c.pointers.left.now c.in-len2-up.len_at_least (c.min-least.ensures ∙ ap (min c.pointers.least) (c.from.ensures ∙ c.from_be_bytes.ensures)) before.value in
-    record { value = next.0; within = omega (arith, next.1, within) }
+pub returns-clause-value : goal.returns-clause-value
+returns-clause-value c =
+    c.min.ensures ∙ ap (min c.args.most) c.from.ensures
+    ∙ least_some c.args.most c.number_of.result c.least_from-least.result c.args.pointers.now c.in-len2-up.len_at_least c.number_of.ensures.value c.least_from-least.ensures.value

@@ -1,7 +1,8 @@
-use Rattle.std.proofs.Common.{◌≡◌, ◌-◌, ◌∙◌, ℕ, ℤ, suc, w64, to_z, of_z, IsTrue, Ok, Err, sym, subst, arith}
+use Rattle.std.proofs.Common.{◌≡◌, ◌-◌, ◌∙◌, ℕ, ℤ, suc, w64, to_z, of_z, IsTrue, Option, None, Some, Ok, Err, sym, subst, arith}
 use Rattle.std.proofs.lemmas.Int.{to_z-of_z}
 use Rattle.tree_leaf.specs.Leaf.{Entry}
 use Rattle.pages.specs.Map.{PageMap}
+use Rattle.tree_pack.specs.declared.spreading.Packed.{Packed}
 use Rattle.tree_table.specs.Growing.{IsUnder, IsChanged, IsThereAt, IsNotAt, Changes, PlansLeaf, Widens}
 use Rattle.tree_table.specs.Rows.{with_row}
 use Rattle.tree_table.specs.Stepping.{StepsFrom}
@@ -49,11 +50,28 @@ returns-in_err-packed-in-Here-clause-changes g n c = λ told depth low t high fr
     let steps_any = subst (λ (z : ℤ). StepsFrom base size c.args.number z (Ok c.in_ok-step_from.field-0)) plain (c.in_ok-step_from.ensures.found told) in
     let stays = c.in_ok-step_from.ensures.stays in
     let steps = subst (λ (s : Step). StepsFrom base size c.args.number c.args.rowid (Ok s)) c.in-Here.is steps_any in
-    let new = pages.map c.packed_leaf.new.pages in
+    let new = pages.map c.leaf_with.new.pages in
     let plans = subst (λ (z : ℤ). PlansLeaf base new size c.args.number c.in-Here.place (record { rowid = z; payload = c.args.payload.now }) (Err c.in_err-packed-in-Here.field-0.0)) plain
     (since pages.below pages.tells pages.limits pages.map old c.step_from.new.pages (λ (m : PageMap) (n : ℕ). PlansLeaf m new n c.args.number c.in-Here.place (record { rowid = to_z w64 (of_z w64 c.args.rowid); payload = c.args.payload.now }) (Err c.in_err-packed-in-Here.field-0.0)) stays.kept stays.same c.in_err-packed-in-Here.ensures.planned told) in
     full_err (IsChanged base new size c.args.number c.args.ways row depth low t high free) c.from_residual-in_err-packed-in-Here.result c.in_err-packed-in-Here.field-0.0 c.from_residual-in_err-packed-in-Here.ensures.1
     (step_here base new size c.args.number c.args.ways c.in-Here.place row depth low t high free under steps (Err c.in_err-packed-in-Here.field-0.0) plans))
+
+pub returns-in_default-clause-changes : goal.returns-in_default-clause-changes
+returns-in_default-clause-changes g n c = λ told depth low t high free under.
+    (let pages = g.P.Pages in
+    let old = c.args.pages.now in
+    let base = pages.map old in
+    let size = (pages.limits (pages.below old)).page in
+    let row : Entry = record { rowid = c.args.rowid; payload = c.args.payload.now } in
+    let plain = to_z-of_z w64 c.args.rowid c.ranges.rowid in
+    let steps_any = subst (λ (z : ℤ). StepsFrom base size c.args.number z (Ok c.in_ok-step_from.field-0)) plain (c.in_ok-step_from.ensures.found told) in
+    let stays = c.in_ok-step_from.ensures.stays in
+    let steps = subst (λ (s : Step). StepsFrom base size c.args.number c.args.rowid (Ok s)) c.in-Here.is steps_any in
+    let new = pages.map c.leaf_with.new.pages in
+    let plans = subst (λ (z : ℤ). PlansLeaf base new size c.args.number c.in-Here.place (record { rowid = z; payload = c.args.payload.now }) (Ok c.in_ok-packed-in-Here.field-0)) plain
+    (since pages.below pages.tells pages.limits pages.map old c.step_from.new.pages (λ (m : PageMap) (n : ℕ). PlansLeaf m new n c.args.number c.in-Here.place (record { rowid = to_z w64 (of_z w64 c.args.rowid); payload = c.args.payload.now }) (Ok c.in_ok-packed-in-Here.field-0)) stays.kept stays.same c.in_ok-packed-in-Here.ensures.planned told) in
+    let now = subst (λ (answer : Option Packed). PlansLeaf base new size c.args.number c.in-Here.place row (Ok answer)) c.in_default.is plans in
+    step_here base new size c.args.number c.args.ways c.in-Here.place row depth low t high free under steps (Ok None) now)
 
 pub returns-in-Here-clause-changes : goal.returns-in-Here-clause-changes
 returns-in-Here-clause-changes g n c = λ told depth low t high free under.
@@ -66,10 +84,11 @@ returns-in-Here-clause-changes g n c = λ told depth low t high free under.
     let steps_any = subst (λ (z : ℤ). StepsFrom base size c.args.number z (Ok c.in_ok-step_from.field-0)) plain (c.in_ok-step_from.ensures.found told) in
     let stays = c.in_ok-step_from.ensures.stays in
     let steps = subst (λ (s : Step). StepsFrom base size c.args.number c.args.rowid (Ok s)) c.in-Here.is steps_any in
-    let new = pages.map c.packed_leaf.new.pages in
-    let plans = subst (λ (z : ℤ). PlansLeaf base new size c.args.number c.in-Here.place (record { rowid = z; payload = c.args.payload.now }) (Ok c.in_ok-packed-in-Here.packed)) plain
-    (since pages.below pages.tells pages.limits pages.map old c.step_from.new.pages (λ (m : PageMap) (n : ℕ). PlansLeaf m new n c.args.number c.in-Here.place (record { rowid = to_z w64 (of_z w64 c.args.rowid); payload = c.args.payload.now }) (Ok c.in_ok-packed-in-Here.packed)) stays.kept stays.same c.in_ok-packed-in-Here.ensures.planned told) in
-    step_here base new size c.args.number c.args.ways c.in-Here.place row depth low t high free under steps (Ok c.in_ok-packed-in-Here.packed) plans)
+    let new = pages.map c.leaf_with.new.pages in
+    let plans = subst (λ (z : ℤ). PlansLeaf base new size c.args.number c.in-Here.place (record { rowid = z; payload = c.args.payload.now }) (Ok c.in_ok-packed-in-Here.field-0)) plain
+    (since pages.below pages.tells pages.limits pages.map old c.step_from.new.pages (λ (m : PageMap) (n : ℕ). PlansLeaf m new n c.args.number c.in-Here.place (record { rowid = to_z w64 (of_z w64 c.args.rowid); payload = c.args.payload.now }) (Ok c.in_ok-packed-in-Here.field-0)) stays.kept stays.same c.in_ok-packed-in-Here.ensures.planned told) in
+    let now = subst (λ (answer : Option Packed). PlansLeaf base new size c.args.number c.in-Here.place row (Ok answer)) c.in-Some.is plans in
+    step_here base new size c.args.number c.args.ways c.in-Here.place row depth low t high free under steps (Ok (Some c.in-Some.packed)) now)
 
 pub returns-then-ways-eq0-clause-changes : goal.returns-then-ways-eq0-clause-changes
 returns-then-ways-eq0-clause-changes g n c = λ told depth low t high free under.

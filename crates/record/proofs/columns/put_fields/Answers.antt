@@ -1,10 +1,9 @@
-use Rattle.std.proofs.Common.{◌≡◌, ◌∷◌, ◌∙◌, ap, sym, arith, ℕ, List, [], Some, map}
+use Rattle.std.proofs.Common.{◌≡◌, ◌∷◌, ◌∙◌, ap, ℕ, List, [], Some, map}
 use Rattle.std.proofs.lemmas.List.{map-append}
 use Rattle.sqlval.specs.Fields.{value_of}
 use Rattle.record.specs.Columns.{left_after}
-use Rattle.record.proofs.ColumnLemmas.{varint_shortens}
 use Rattle.record.proofs.InPlace.{typed_is, typed_leaves, values_on}
-use Rattle.record.proofs.columns.all_fields.Goals as goal
+use Rattle.record.proofs.columns.put_fields.Goals as goal
 
 pub columns-preserved : goal.columns-preserved
 columns-preserved c =
@@ -15,7 +14,4 @@ columns-preserved c =
     let leaves : Some (left, c.field_typed.result.1.now) ≡ left_after types bodies =
     ap (λ (bodies : List ℕ). Some (left, bodies)) c.field_typed.ensures.left ∙ typed_leaves types bodies c.in-Some.serial left c.in-Some.ensures.exact in
     let value = c.field_typed.ensures.value ∙ typed_is types bodies c.in-Some.serial left c.in-Some.ensures.exact in
-    let shorter = varint_shortens types c.in-Some.serial left (sym c.in-Some.ensures.exact) in (
-      rw (c.push_reserved.ensures.items, map-append value_of c.columns.fields.items (field ∷ [])) (values_on (map value_of c.columns.fields.items) _ types bodies left c.field_typed.result.1.now _ leaves value c.columns.invariant.0),
-      omega (arith, shorter, c.columns.invariant.1, c.push_reserved.ensures.len, c.push_reserved.ensures.capacity),
-    )
+    rw (c.in_ok-push.ensures.ok, map-append value_of c.columns.fields.items (field ∷ [])) (values_on (map value_of c.columns.fields.items) _ types bodies left c.field_typed.result.1.now _ leaves value c.columns.invariant)
