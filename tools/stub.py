@@ -4,8 +4,8 @@ can be checked while this one isn't proved yet.
 
 usage: tools/stub.py CRATE     in a copy that is thrown away: the crate's files are overwritten
 
-Private functions and their proofs go, and the crate's edits. Lemmas stay, and so do public functions that refuse nothing, with what their proofs
-say; methods aren't touched.
+Private functions and their proofs go, and the crate's edits. Lemmas stay, and so do public functions that refuse nothing, with their proofs and the
+private functions that they call; methods aren't touched.
 """
 import re
 import shutil
@@ -18,21 +18,43 @@ FUNCTION = re.compile(r"^((?:(?:///|#\[)[^\n]*\n)*)(pub )?(?:pub\(crate\) )?fn (
 STUB = "{\n    Err(Fault::Memory)\n}\n\n"
 
 
-def stub(text, kept):
-    """A file with stubs; the names of functions that stay as they are get into a set."""
+def refuses(head):
+    return "-> R<" in head
+
+
+def kept_names(texts):
+    """The functions that stay as they are: public ones that refuse nothing, and private ones that these call."""
+    found = {name: (is_public, head + body, head) for text in texts for head, is_public, name, body in parts(text)}
+    kept = {name for name, (is_public, _, head) in found.items() if is_public and not refuses(head)}
+    reached = kept
+    while reached:
+        called = {word for name in reached for word in re.findall(r"\b[a-z_0-9]+\b", found[name][1])}
+        reached = {name for name in called & set(found) if not found[name][0]} - kept
+        kept |= reached
+    return kept, {name for name, (is_public, _, _) in found.items() if not is_public} - kept
+
+
+def parts(text):
+    for found in FUNCTION.finditer(text):
+        _, is_public, name, body = found.groups()
+        yield text[found.start():found.start(4)], is_public, name, body
+
+
+def stub(text, kept, gone):
+    """A file with stubs, without the functions that are gone."""
 
     def turned(found):
-        _, is_public, name, body = found.groups()
-        whole = found.group(0)
-        head = whole[:found.start(4) - found.start(0)]
-        if not is_public:
-            return ""
-        if "-> R<" in head:
-            return head + STUB
-        kept.add(name)
-        return whole
+        name, whole = found.group(3), found.group(0)
+        if name in kept:
+            return whole
+        return "" if name in gone else whole[:found.start(4) - found.start(0)] + STUB
 
-    text = re.sub(r"^use crate::[^;]*;\n", "", FUNCTION.sub(turned, text), flags=re.M)
+    def imported(found):
+        path, names = found.group(1), [name.strip() for name in found.group(2).strip("{}").split(",")]
+        left = [name for name in names if name and name not in gone]
+        return f"use crate::{path}{{{', '.join(left)}}};\n" if left else ""
+
+    text = re.sub(r"^use crate::((?:\w+::)*)(\w+|\{[^}]*\});\n", imported, FUNCTION.sub(turned, text), flags=re.M)
     return re.sub(r"^use sqlval::(?!.*\bFault\b)\{?([^;}]*)\}?;", r"use sqlval::{Fault, \1};", text, flags=re.M)
 
 
@@ -40,10 +62,10 @@ def main():
     if len(sys.argv) != 2:
         sys.exit(__doc__)
     crate = ROOT / "crates" / sys.argv[1]
-    kept = set()
-    for file in crate.glob("src/*.rt"):
-        if file.name != "lib.rt":
-            file.write_text(stub(file.read_text(), kept))
+    files = [file for file in crate.glob("src/*.rt") if file.name != "lib.rt"]
+    kept, gone = kept_names([file.read_text() for file in files])
+    for file in files:
+        file.write_text(stub(file.read_text(), kept, gone))
     for folder in crate.glob("proofs/*/*"):
         if folder.is_dir() and folder.name not in kept:
             shutil.rmtree(folder)

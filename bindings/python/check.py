@@ -148,7 +148,7 @@ def refusals(folder):
         run = lambda sql, *parameters: raised(lambda: db.execute(sql, parameters))  # noqa: E731
         same("E8", ("ProgrammingError", 8, "no such column: x"), run("SELECT x FROM t"))
         same("E7", ("ProgrammingError", 7, "syntax error at byte 7"), run("SELECT FROM t"))
-        same("E9", ("ProgrammingError", 9, "there is a table or an index of this name: t"), run("CREATE TABLE t(a)"))
+        same("E9", ("ProgrammingError", 9, "there is a table, an index, a view or a trigger of this name: t"), run("CREATE TABLE t(a)"))
         same("E14", ("OperationalError", 14, "no transaction is active"), run("COMMIT"))
         same("E17", ("IntegrityError", 17, "NOT NULL constraint failed"), run("INSERT INTO t VALUES (?)", None))
         same("E21", ("DataError", 21), (run("SELECT 1.5") or ())[:2])

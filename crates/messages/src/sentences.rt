@@ -91,7 +91,7 @@ pub fn sentence(fault: &Fault) -> &'static str {
         Fault::Full => "the database or its log is full",
         Fault::Syntax(_) => "syntax error at byte ",
         Fault::NoSuch(object, _) => missing(*object),
-        Fault::Exists(_) => "there is a table or an index of this name: ",
+        Fault::Exists(_) => "there is a table, an index, a view or a trigger of this name: ",
         Fault::Ambiguous(_) => "ambiguous column name: ",
         Fault::Misuse(misuse) => misused(*misuse),
         Fault::Busy => "another connection is writing",
