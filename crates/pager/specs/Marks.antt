@@ -1,5 +1,5 @@
 -- What a writer would commit, and what it would have committed at its marks.
-use Rattle.std.specs.Prelude.{◌≡◌, ◌≤◌, ℕ, Bool, List, drop, map, slice_index}
+use Rattle.std.specs.Prelude.{◌≡◌, ◌≤◌, ℕ, Bool, List, drop, length, map, slice_index}
 use Rattle.wal.specs.declared.pages.PageImage.{PageImage}
 use Rattle.pager.specs.declared.saved.Saved.{Saved}
 use Rattle.pager.specs.declared.saved.Mark.{Mark}
@@ -27,6 +27,10 @@ changes_at_each saved pages = map (changes_at saved pages)
 -- what a writer would have committed at each of its marks, the newest last
 abbrev pub marks_of : Writer → List Changes
 marks_of writer = changes_at_each writer.saved.items writer.pages.items writer.marks.items
+
+-- how many images of pages, and parts of pages, are kept for the way back to its marks
+abbrev pub kept_count : Writer → ℕ
+kept_count writer = length writer.saved.items
 
 -- what the page at this place was at the newest mark is saved, or there is no mark
 abbrev pub IsSaved : Writer → ℕ → Type 0

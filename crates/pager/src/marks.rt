@@ -3,7 +3,7 @@
 ghost use Rattle.std.specs.Prelude.{◌≡◌, ◌<◌, ◌≤◌, ◌+◌, ◌++◌, ◌∷◌, [], length, set, take, vec_capacity, slice_index_or, IfErr, IfOk, IsTrue, OnOk};
 ghost use Rattle.std.specs.List.{insert};
 ghost use Rattle.sqlval.specs.declared.fault.Fault.TheVariants.{Memory};
-ghost use Rattle.pager.specs.Marks.{Changes, IsOverTheSame, IsSaved, marks_of, now_of};
+ghost use Rattle.pager.specs.Marks.{Changes, IsOverTheSame, IsSaved, kept_count, marks_of, now_of};
 ghost use Rattle.pager.specs.Undo.{AllSaved, part_over};
 ghost use Rattle.pager.specs.Views.{changes_of};
 ghost use Rattle.pager.specs.Writers.{DiffersInPages, IsAt, IsGapFor};
@@ -76,6 +76,8 @@ impl Writer {
         requires { mark < length (marks_of self.old) }
         ensures same { now_of self.new ≡ now_of self.old }
         ensures marks { marks_of self.new ≡ take mark (marks_of self.old) }
+        // With the last mark all that was kept for a way back goes.
+        ensures none { mark ≡ 0 → kept_count self.new ≡ 0 }
         ensures stands { IsOverTheSame self.old self.new }
     {
         if mark == 0 {

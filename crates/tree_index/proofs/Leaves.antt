@@ -8,13 +8,15 @@ use Rattle.std.specs.List.{AllByRecursion}
 use Rattle.std.specs.Prelude.{Result, Ok, Err, MatchResult}
 use Rattle.sqlval.specs.PageSizes.{IsPageSize}
 use Rattle.sqlval.specs.declared.fault.Fault.{Fault}
+use Rattle.sqlval.specs.Faults.{IsOutside}
 use Rattle.record.specs.Record.{IsRecord}
 use Rattle.pages.specs.Calls.{IsOutsideOrFull}
-use Rattle.pages.specs.Counting.{occurs, Moves}
+use Rattle.pages.specs.Counting.{occurs, start_of, Moves}
 use Rattle.pages.specs.Map.{PageMap, page_at, AreWhole}
 use Rattle.pages.proofs.Moving.{occurs_append}
 use Rattle.tree_page.specs.Cells.{Pairwise}
-use Rattle.tree_page.specs.Node.{Local, Entries, IsNode, IsEntryCell}
+use Rattle.freelist.specs.Calls.{AreFree}
+use Rattle.tree_page.specs.Node.{Local, Entries, IsNode, IsEntryCell, Say}
 use Rattle.tree_page.specs.Payload.{index_most, least, fitted, local_size, held_size}
 use Rattle.tree_page.specs.declared.items.Kind.TheVariants.{IndexLeaf}
 use Rattle.tree_page.proofs.HeaderLemmas.{same_length}
@@ -31,17 +33,20 @@ use Rattle.tree_pack.proofs.CountLemmas.{cut_fewer}
 use Rattle.tree_pack.proofs.SmallLemmas.{entry_small}
 use Rattle.tree_pack.proofs.Splices.{pairwise_spliced}
 use Rattle.tree_store.specs.Saying.{Says}
+use Rattle.tree_store.specs.Storing.{IsPlacedOn, PlacesOn}
 use Rattle.tree_index.specs.Entries.{Entry}
 use Rattle.tree_index.specs.Freeing.{StandsUnder, chains_of, below_of}
-use Rattle.tree_index.specs.Growing.{IsPlanned, entries_put}
+use Rattle.tree_index.specs.Growing.{IsPlanned, IsPut, entries_put}
 use Rattle.tree_index.specs.Tree.{Held, IsHeldAs, IsLeaf, Leaf, pages_of}
 use Rattle.tree_index.proofs.Branches.{starts_at}
 use Rattle.tree_index.proofs.Clearing.{number_far}
 use Rattle.tree_index.proofs.Cutting.{cut_leaf, values}
 use Rattle.tree_index.proofs.Emptied.{large_size}
 use Rattle.tree_pack.proofs.Rooms.{cells_fit}
-use Rattle.tree_index.proofs.Shares.{beside_used, others_kept, start_after}
+use Rattle.tree_index.proofs.OnLeaves.{unfree, put_on}
+use Rattle.tree_index.proofs.Shares.{after, beside_used, once_after, others_kept, start_after, up_none}
 use Rattle.tree_index.proofs.Staying.{lies_kept}
+use Rattle.tree_index.proofs.Subtrees.{tree_up}
 use Rattle.tree_index.proofs.Sums.{room_added}
 
 -- ---- few pages
@@ -138,11 +143,11 @@ payload_held m size held payload pages big is = by_size (nat_le (length payload)
 -- ---- one entry more
 
 -- one more at a place
-abbrev with_one : ℕ → Held → List Held → List Held
-with_one place held entries = take place entries ++ (held ∷ drop place entries)
+abbrev pub with_one : {A : Type 0} → ℕ → A → List A → List A
+with_one place x xs = take place xs ++ (x ∷ drop place xs)
 
-spliced_is : (place : ℕ) (held : Held) (entries : List Held) → spliced place 0 (held ∷ []) entries ≡ with_one place held entries
-spliced_is place held entries = (let e : place + 0 ≡ place = omega arith in ap (λ (n : ℕ). take place entries ++ (held ∷ drop n entries)) e)
+spliced_is : {A : Type 0} (place : ℕ) (x : A) (xs : List A) → spliced place 0 (x ∷ []) xs ≡ with_one place x xs
+spliced_is place x xs = (let e : place + 0 ≡ place = omega arith in ap (λ (n : ℕ). take place xs ++ (x ∷ drop n xs)) e)
 
 one_values : (place : ℕ) (held : Held) (entries : List Held) → values (with_one place held entries) ≡ take place (values entries) ++ (held.entry ∷ drop place (values entries))
 one_values zero held entries = refl
@@ -195,6 +200,18 @@ module _ (old mid : PageMap) (size number ways : ℕ) (entry : Entry) (payload :
   held_entries : Pairwise (IsHeldAs mid size) said entries
   held_entries = pairwise_spliced (IsHeldAs mid size) place 0 leaf_mid.said (local ∷ []) t.entries (new_one ∷ []) leaf_mid.entries (record { size = refl; payload = w.is; record_is = record_is }, tt)
 
+  -- ---- what is used and free
+
+  first_moves : Moves old mid (pages_of zero t) free (number ∷ chains_of entries) w.now_free
+  first_moves = beside_used old mid [] free w.chain w.now_free (pages_of zero t) (pages_of zero t) (number ∷ chains_of entries) w.moves (λ n. omega arith)
+      (λ n. (let put = put_chains n place new_one t.entries in let same = ap (λ (m : ℕ). occurs n (m ∷ chains_of t.entries)) under.top_is in omega (arith, put, same)))
+
+  once_mid : (n : ℕ) → occurs n (number ∷ chains_of entries) + occurs n w.now_free ≤ 1
+  once_mid = once_after old mid size (pages_of zero t) free (number ∷ chains_of entries) w.now_free under.free_are first_moves (tree_up old size zero t under.lies) under.apart
+
+  free_mid : AreFree mid size w.now_free
+  free_mid = (after old mid size [] free w.chain w.now_free under.free_are w.moves w.has (up_none (length old)) (λ n. (let once = under.apart n in omega (arith, once))) refl).are
+
   module _ (cell : List ℕ) (is_cell : IsEntryCell size cell local) where
     node : IsNode (page_at mid number) 0 (Entries leaf_mid.said)
     node = subst (λ (n : ℕ). IsNode (page_at mid number) n (Entries leaf_mid.said)) (start_after number (number_far old size number ways zero t free under)) says_mid.node_is
@@ -209,6 +226,39 @@ module _ (old mid : PageMap) (size number ways : ℕ) (entry : Entry) (payload :
       say = pairwise_spliced (IsEntryCell (length (page_at mid number))) place 0 node.cells (cell ∷ []) leaf_mid.said (local ∷ []) node.say
           (subst (λ (n : ℕ). IsEntryCell n cell local) (sym long_mid) is_cell, tt);
     }
+
+    -- ---- the entry on the leaf's page
+
+    node_there : IsNode (page_at mid number) (start_of number) (Entries leaf_mid.said)
+    node_there = says_mid.node_is
+
+    say_put : Say size (with_one place cell node_there.cells) (Entries said)
+    say_put = subst (λ (cells : List (List ℕ)). Pairwise (IsEntryCell size) cells said) (spliced_is place cell node_there.cells)
+        (pairwise_spliced (IsEntryCell size) place 0 node_there.cells (cell ∷ []) leaf_mid.said (local ∷ [])
+        (subst (λ (n : ℕ). Pairwise (IsEntryCell n) node_there.cells leaf_mid.said) long_mid node_there.say) (is_cell, tt))
+
+    there_count : length node_there.cells ≡ length t.entries
+    there_count = same_length (IsEntryCell (length (page_at mid number))) node_there.cells leaf_mid.said node_there.say
+        ∙ same_length (IsHeldAs mid size) leaf_mid.said t.entries leaf_mid.entries
+
+    leaf_places : (new : PageMap) (result : Result Bool Fault) → PlacesOn mid new size number place cell result
+        → MatchResult result (IsPlacedOn mid new size w.now_free number (with_one place cell node_there.cells) (Entries said)) IsOutside
+    leaf_places new result places = places w.now_free free_mid says_mid.has
+        (unfree old mid size number (pages_of zero t) free w.now_free said entries whole_mid says_mid.has held_entries first_moves once_mid w.header)
+        (Entries leaf_mid.said) (Entries said) node_there (large_size size sized).1 (let count = there_count in omega (arith, count, within)) refl refl say_put
+
+    pub leaf_placed : (new : PageMap) → PlacesOn mid new size number place cell (Ok true) → IsPut old new size number zero (entries_put place entry t) (pages_of zero t) free
+    leaf_placed new places = subst (λ (es : List Entry). IsPut old new size number zero es (pages_of zero t) free) (put_values place new_one t.entries)
+        (put_on old mid size number (pages_of zero t) free w.now_free said entries whole_mid says_mid.has held_entries first_moves once_mid w.header new
+        (with_one place cell node_there.cells) (leaf_places new (Ok true) places))
+
+    pub leaf_unplaced : (new : PageMap) → PlacesOn mid new size number place cell (Ok false) → new ≡ mid
+    leaf_unplaced new places = leaf_places new (Ok false) places
+
+    pub leaf_unwritten : (new : PageMap) (fault : Fault) → PlacesOn mid new size number place cell (Err fault) → IsOutside fault
+    leaf_unwritten new fault places = leaf_places new (Err fault) places
+
+    -- ---- pages in its place
 
     planned : (packed : Packed) → Packs IndexLeaf (length (page_at mid number)) [] (place + 0 == length node.cells) (spliced place 0 (cell ∷ []) node.cells) (Entries said) packed
         → IsPlanned old mid size zero (entries_put place entry t) (below_of zero t) free packed

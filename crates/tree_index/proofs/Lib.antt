@@ -16,6 +16,7 @@ pub mod Inserts
 mod Sums
 mod Rows
 mod Branches
+mod OnLeaves
 mod Leaves
 mod Fans
 mod Widening

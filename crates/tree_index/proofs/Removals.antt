@@ -1,5 +1,5 @@
 -- An entry that is taken out of a tree, from the page at the top on.
-use Rattle.std.proofs.Common.{◌≡◌, ◌<◌, ◌+◌, ℕ, zero, suc, false, List, ◌∷◌, ◌++◌, append_assoc, length, map, slice_index_or, sym, ap, subst, ◌∙◌, arith}
+use Rattle.std.proofs.Common.{◌≡◌, ◌<◌, ◌+◌, ℕ, zero, suc, true, false, List, ◌∷◌, ◌++◌, append_assoc, length, map, slice_index_or, sym, ap, subst, ◌∙◌, arith}
 use Rattle.std.specs.Prelude.{Result, Ok, Err, MatchResult}
 use Rattle.sqlval.specs.declared.collation.Collation.{Collation}
 use Rattle.sqlval.specs.declared.fault.Fault.{Fault}
@@ -8,10 +8,10 @@ use Rattle.pages.specs.Map.{PageMap}
 use Rattle.tree_pack.specs.declared.spreading.Packed.{Packed}
 use Rattle.tree_index.specs.Entries.{Entry, AreEntries, has_entry, without_entry}
 use Rattle.tree_index.specs.Freeing.{below_of}
-use Rattle.tree_index.specs.Growing.{IsEqualAt, StepsFrom, IsUnder, IsPlanned, IsWayTo}
+use Rattle.tree_index.specs.Growing.{IsEqualAt, StepsFrom, IsUnder, IsPlanned, IsPut, IsWayTo}
 use Rattle.tree_index.specs.Joining.{tree_at, left_at, right_at}
-use Rattle.tree_index.specs.Removing.{TakesAt, IsLessened, Lessens, Narrows, count_at, entries_cut}
-use Rattle.tree_index.specs.Tree.{Held, Tree, top, entries_of}
+use Rattle.tree_index.specs.Removing.{TakesAt, IsTakenOut, IsLessened, Lessens, Narrows, count_at, entries_cut}
+use Rattle.tree_index.specs.Tree.{Held, Tree, top, entries_of, pages_of}
 use Rattle.tree_index.specs.declared.placing.Step.TheVariants.{Found, Here, Down}
 use Rattle.tree_index.specs.declared.removing.Loss.{Loss}
 use Rattle.tree_index.specs.declared.removing.Loss.TheVariants.{Still, Done, Spread}
@@ -48,15 +48,23 @@ module _ (columns : List Collation) (x : Entry) (long_x : length x ≡ length co
   module _ (old : PageMap) (size number : ℕ) where
     -- it is on the page at the top
     pub found_taken : (new : PageMap) (place depth : ℕ) (t : Tree depth) (free : List ℕ) → IsUnder old size number depth columns depth t free → StepsFrom old size number columns x (Ok (Found place))
-        → (result : Result Packed Fault) → TakesAt old new size number place depth result → MatchResult result (λ p. IsLessened old new size number columns x depth t free (Spread p)) IsOutsideOrFull
+        → (result : Result Loss Fault) → TakesAt old new size number place depth result → MatchResult result (IsLessened old new size number columns x depth t free) IsOutsideOrFull
     found_taken new place depth t free under steps result takes = by result (takes depth t free under.stands under.sized (within depth place t equal))
       where
         equal : IsEqualAt columns x (entries_at depth t) place
         equal = (stepped old size number depth columns x depth t free under (Ok (Found place)) steps).1
 
-        by : (result : Result Packed Fault) → MatchResult result (IsPlanned old new size depth (entries_cut depth place t) (below_of depth t) free) IsOutsideOrFull
-            → MatchResult result (λ p. IsLessened old new size number columns x depth t free (Spread p)) IsOutsideOrFull
-        by (Ok p) plan = (step_found old size number depth columns x place depth t free under steps, subst (λ (es : List Entry). IsPlanned old new size depth es (below_of depth t) free p) (cut_is depth place t under.sorted equal) plan)
+        there : has_entry columns x (entries_of depth t) ≡ true
+        there = step_found old size number depth columns x place depth t free under steps
+
+        cut : entries_cut depth place t ≡ without_entry columns x (entries_of depth t)
+        cut = cut_is depth place t under.sorted equal
+
+        by : (result : Result Loss Fault) → MatchResult result (IsTakenOut old new size number depth (entries_cut depth place t) t free) IsOutsideOrFull
+            → MatchResult result (IsLessened old new size number columns x depth t free) IsOutsideOrFull
+        by (Ok Still) none = absurd none
+        by (Ok Done) put = (there, subst (λ (es : List Entry). IsPut old new size number depth es (pages_of depth t) free) cut put)
+        by (Ok (Spread p)) plan = (there, subst (λ (es : List Entry). IsPlanned old new size depth es (below_of depth t) free p) cut plan)
         by (Err fault) refused = refused
 
     -- a leaf hasn't it

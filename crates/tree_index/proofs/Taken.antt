@@ -1,14 +1,14 @@
 -- An entry whose overflow pages are given back, and a leaf without it.
-use Rattle.std.proofs.Common.{◌≡◌, ◌≤◌, ◌<◌, ◌+◌, ◌-◌, ◌==◌, ℕ, zero, suc, List, [], ◌∷◌, length, slice_index_or, refl, sym, ap, subst, inl, arith}
+use Rattle.std.proofs.Common.{◌≡◌, ◌≤◌, ◌<◌, ◌+◌, ◌-◌, ◌==◌, ℕ, zero, suc, Bool, true, false, List, [], ◌∷◌, length, slice_index_or, refl, sym, ap, subst, inl, arith}
 use Rattle.std.specs.Prelude.{⊤, Result, Ok, Err, MatchResult}
 use Rattle.sqlval.specs.Faults.{IsOutside}
 use Rattle.sqlval.specs.PageSizes.{IsPageSize}
 use Rattle.sqlval.specs.declared.fault.Fault.{Fault}
-use Rattle.pages.specs.Counting.{occurs}
+use Rattle.pages.specs.Counting.{occurs, start_of, Moves}
 use Rattle.pages.specs.Map.{PageMap, page_at, AreWhole, IsThere}
 use Rattle.pages.proofs.Moving.{occurs_append}
 use Rattle.tree_page.specs.Cells.{Pairwise}
-use Rattle.tree_page.specs.Node.{Local, Entries, IsNode, IsEntryCell}
+use Rattle.tree_page.specs.Node.{Local, Entries, IsNode, IsEntryCell, Say}
 use Rattle.tree_page.specs.declared.items.Kind.TheVariants.{IndexLeaf}
 use Rattle.tree_page.proofs.HeaderLemmas.{same_length}
 use Rattle.tree_pack.specs.Building.{cell_room}
@@ -17,12 +17,13 @@ use Rattle.tree_pack.specs.Splicing.{spliced, Splices}
 use Rattle.tree_pack.specs.declared.spreading.Packed.{Packed}
 use Rattle.tree_store.specs.Saying.{Says}
 use Rattle.tree_store.specs.Staying.{AreKept}
+use Rattle.tree_store.specs.Storing.{IsPlacedOn, TakesOff}
 use Rattle.tree_store.proofs.Staying.{kept_of, says_kept, occurs_here}
 use Rattle.tree_index.specs.Calls.{AreGivenBack}
 use Rattle.tree_index.specs.Comparing.{locals_of}
 use Rattle.tree_index.specs.Entries.{Entry}
 use Rattle.tree_index.specs.Freeing.{StandsUnder, FreesEntry, chains_of, below_of}
-use Rattle.tree_index.specs.Growing.{IsPlanned}
+use Rattle.tree_index.specs.Growing.{IsPlanned, IsPut}
 use Rattle.tree_index.specs.Joining.{without_at}
 use Rattle.tree_index.specs.Tree.{Held, IsHeldAs, Leaf, Tree, entries_of, pages_of}
 use Rattle.tree_index.proofs.Clearing.{number_far, top_and_below}
@@ -31,12 +32,13 @@ use Rattle.tree_index.proofs.Emptied.{large_size}
 use Rattle.tree_index.proofs.Givings.{among, chain_of}
 use Rattle.tree_index.proofs.Inserts.{nothing}
 use Rattle.tree_index.proofs.Leaves.{usual, at_most}
+use Rattle.tree_index.proofs.OnLeaves.{unfree, put_on}
 use Rattle.tree_index.proofs.OneLess.{none_in, pairwise_without}
 use Rattle.tree_index.proofs.Readings.{said_there}
 use Rattle.tree_pack.proofs.Rooms.{cells_fit}
-use Rattle.tree_index.proofs.Shares.{beside_used, others_kept, start_after}
+use Rattle.tree_index.proofs.Shares.{beside_used, once_after, others_kept, start_after}
 use Rattle.tree_index.proofs.Staying.{entries_kept}
-use Rattle.tree_index.proofs.Subtrees.{entries_at, told, row_pages}
+use Rattle.tree_index.proofs.Subtrees.{entries_at, told, row_pages, tree_up}
 use Rattle.tree_index.proofs.Sums.{room_swapped}
 use Rattle.tree_index.proofs.Tops.{leaf_tops, planned_by}
 
@@ -149,6 +151,51 @@ module _ (old : PageMap) (size number ways : ℕ) (t : Leaf) (free : List ℕ) (
       (beside_used old mid gone.pages free [] given.now_free (chains_of rest) (below_of zero t) (chains_of rest) given.moves (λ n. chains_without n place t.entries nothing lt) (λ n. omega arith)) given.header)
 
   -- the other cells are packed
+  -- ---- off the leaf's page
+
+  abbrev now_free : List ℕ
+  now_free = given.now_free
+
+  first_moves : Moves old mid (pages_of zero t) free (number ∷ chains_of rest) now_free
+  first_moves = beside_used old mid gone.pages free [] now_free (number ∷ chains_of rest) (pages_of zero t) (number ∷ chains_of rest) given.moves
+      (λ n. (let e = chains_without n place t.entries nothing lt in let same = ap (λ (m : ℕ). occurs n (m ∷ chains_of t.entries)) under.top_is in omega (arith, e, same)))
+      (λ n. omega arith)
+
+  once_mid : (n : ℕ) → occurs n (number ∷ chains_of rest) + occurs n now_free ≤ 1
+  once_mid = once_after old mid size (pages_of zero t) free (number ∷ chains_of rest) now_free under.free_are first_moves (tree_up old size zero t under.lies) under.apart
+
+  node_there : IsNode (page_at mid number) (start_of number) (Entries (under.lies).said)
+  node_there = says_mid.node_is
+
+  say_there : Say size (spliced place 1 [] node_there.cells) (Entries said)
+  say_there = subst (λ (xs : List (List ℕ)). Pairwise (IsEntryCell size) xs said) (sym (none_in place node_there.cells))
+      (pairwise_without (IsEntryCell size) place node_there.cells (under.lies).said
+      (subst (λ (n : ℕ). Pairwise (IsEntryCell n) node_there.cells (under.lies).said) long_mid node_there.say))
+
+  within_there : place < length node_there.cells
+  within_there = (let a = same_length (IsEntryCell (length (page_at mid number))) node_there.cells (under.lies).said node_there.say in
+      let b = same_length (IsHeldAs old size) (under.lies).said t.entries (under.lies).entries in omega (arith, lt, a, b))
+
+  leaf_taken : (new : PageMap) (result : Result Bool Fault) → TakesOff mid new size number place result
+      → MatchResult result (λ taken. IsPlacedOn mid new size now_free number (spliced place 1 [] node_there.cells) (Entries said) taken × (taken ≡ true → 2 ≤ length node_there.cells)) IsOutside
+  leaf_taken new result takes = takes now_free given.free_are says_mid.has
+      (unfree old mid size number (pages_of zero t) free now_free said rest whole_mid says_mid.has hold first_moves once_mid given.header)
+      (Entries (under.lies).said) (Entries said) node_there (large_size size sized).0 (large_size size sized).1 within_there refl refl say_there
+
+  -- the tree under the page has the others then
+  pub leaf_off : (new : PageMap) → TakesOff mid new size number place (Ok true) → IsPut old new size number zero (without_at place (entries_of zero t)) (pages_of zero t) free
+  leaf_off new takes = subst (λ (es : List Entry). IsPut old new size number zero es (pages_of zero t) free) (values_without place t.entries)
+      (put_on old mid size number (pages_of zero t) free now_free said rest whole_mid says_mid.has hold first_moves once_mid given.header new
+      (spliced place 1 [] node_there.cells) (leaf_taken new (Ok true) takes).0)
+
+  pub leaf_still : (new : PageMap) → TakesOff mid new size number place (Ok false) → new ≡ mid
+  leaf_still new takes = (leaf_taken new (Ok false) takes).0
+
+  pub leaf_unwritten : (new : PageMap) (fault : Fault) → TakesOff mid new size number place (Err fault) → IsOutside fault
+  leaf_unwritten new fault takes = leaf_taken new (Err fault) takes
+
+  -- ---- a page in its place
+
   pub leaf_cut : (page : List ℕ) (result : Result Packed Fault) → page ≡ page_at mid number → Splices page 0 place 1 [] [] result
       → MatchResult result (IsPlanned old mid size zero (without_at place (entries_of zero t)) (below_of zero t) free) IsOutside
   leaf_cut page result page_is splices = by result (subst (λ (bytes : List ℕ). Splices bytes 0 place 1 [] [] result) page_is splices)

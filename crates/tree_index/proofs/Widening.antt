@@ -1,5 +1,5 @@
 -- The way to an entry, and what becomes of the pages on it.
-use Rattle.std.proofs.Common.{◌≡◌, ◌≤◌, ◌<◌, ℕ, zero, suc, Bool, true, false, nat_eq, List, [], ◌∷◌, length, map, None, Some, refl, sym, ap, subst, ◌∙◌, ◌⊎◌, inl, inr, arith}
+use Rattle.std.proofs.Common.{◌≡◌, ◌≤◌, ◌<◌, ℕ, zero, suc, Bool, true, false, nat_eq, List, [], ◌∷◌, length, map, Option, None, Some, refl, sym, ap, subst, ◌∙◌, ◌⊎◌, inl, inr, arith}
 use Rattle.std.proofs.lemmas.Grind.{common_steps}
 use Rattle.std.specs.Global.{Vec}
 use Rattle.std.specs.Prelude.{Result, Ok, Err, MatchResult}
@@ -22,7 +22,7 @@ use Rattle.tree_store.specs.declared.storing.Fan.{Fan}
 use Rattle.tree_index.specs.Comparing.{ComeFirst, front_count, is_less, child_at}
 use Rattle.sqlval.specs.declared.value.Value.{Value}
 use Rattle.tree_index.specs.Entries.{Entry, has_entry, put_before}
-use Rattle.tree_index.specs.Growing.{IsEqualAt, IsStep, StepsFrom, IsUnder, IsChanged, Changes, IsDeep, IsPlanned, IsWayTo, PlansLeaf, Widens, Fans, entries_put}
+use Rattle.tree_index.specs.Growing.{IsEqualAt, IsStep, StepsFrom, IsUnder, IsChanged, Changes, IsDeep, IsPlanned, IsPut, IsPutOrPlanned, IsWayTo, PlansLeaf, Widens, Fans, entries_put}
 use Rattle.tree_index.specs.Tree.{Held, IsKidAs, Tree, top, entries_of, pages_of}
 use Rattle.tree_index.specs.declared.growing.Change.{Change}
 use Rattle.tree_index.specs.declared.growing.Change.TheVariants.{There, Same, Spread}
@@ -174,6 +174,11 @@ is_more n e = grind (arith, common_steps)
 deep_leaf : (ways : ℕ) → IsDeep ways zero (nat_eq ways 0)
 deep_leaf ways = record { full = λ e. is_zero ways e; short = λ e. is_more ways e }
 
+-- what becomes of the leaf
+abbrev pub here_change : ℕ → Option Packed → Change
+here_change ways None = Same
+here_change ways (Some packed) = Spread packed (nat_eq ways 0)
+
 pub none_some : (a : ℕ) → None ≡ Some a → ⊥
 none_some a e = cc
 
@@ -205,8 +210,8 @@ module _ (old : PageMap) (size number ways : ℕ) (columns : List Collation) (x 
   step_found place (suc depth) t free under steps = between_there (entries_of depth) columns x t.kids t.last place (stepped (suc depth) t free under (Ok (Found place)) steps).1
 
   pub step_here : (new : PageMap) (place : ℕ) (y : Entry) (payload : List ℕ) (depth : ℕ) (t : Tree depth) (free : List ℕ) → IsUnder old size number ways columns depth t free → IsRecord payload y
-      → StepsFrom old size number columns x (Ok (Here place)) → (result : Result Packed Fault) → PlansLeaf old new size number place payload result
-      → MatchResult result (λ packed. IsChanged old new size number ways columns x y depth t free (Spread packed (nat_eq ways 0))) IsOutsideOrFull
+      → StepsFrom old size number columns x (Ok (Here place)) → (result : Result (Option Packed) Fault) → PlansLeaf old new size number place payload result
+      → MatchResult result (λ answer. IsChanged old new size number ways columns x y depth t free (here_change ways answer)) IsOutsideOrFull
   step_here new place y payload zero t free under record_is steps result plans = by result (plans y ways t free under.stands under.sized record_is (omega (arith, is.0, count_within (is_less columns x) t.entries)))
     where
       is : IsStep columns x (top_node zero t free under) (entries_at zero t) (Here place)
@@ -218,9 +223,10 @@ module _ (old : PageMap) (size number ways : ℕ) (columns : List Collation) (x 
       put : entries_put place y t ≡ put_before columns x y (entries_of zero t)
       put = ap (λ (n : ℕ). entries_put n y t) is.0 ∙ sym (put_at columns x y t.entries)
 
-      by : (result : Result Packed Fault) → MatchResult result (IsPlanned old new size zero (entries_put place y t) (below_of zero t) free) IsOutsideOrFull
-          → MatchResult result (λ packed. IsChanged old new size number ways columns x y zero t free (Spread packed (nat_eq ways 0))) IsOutsideOrFull
-      by (Ok packed) plan = (absent, deep_leaf ways, subst (λ (es : List Entry). IsPlanned old new size zero es (below_of zero t) free packed) put plan)
+      by : (result : Result (Option Packed) Fault) → MatchResult result (IsPutOrPlanned old new size number place y t free) IsOutsideOrFull
+          → MatchResult result (λ answer. IsChanged old new size number ways columns x y zero t free (here_change ways answer)) IsOutsideOrFull
+      by (Ok None) is_put = (absent, subst (λ (es : List Entry). IsPut old new size number zero es (pages_of zero t) free) put is_put)
+      by (Ok (Some packed)) plan = (absent, deep_leaf ways, subst (λ (es : List Entry). IsPlanned old new size zero es (below_of zero t) free packed) put plan)
       by (Err fault) refused = refused
   step_here new place y payload (suc depth) t free under record_is steps result plans = absurd (some_none _ (stepped (suc depth) t free under (Ok (Here place)) steps).2)
 

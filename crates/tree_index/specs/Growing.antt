@@ -1,5 +1,5 @@
 -- How an entry is put into an index's tree: what becomes of the page at the top of a subtree.
-use Rattle.std.specs.Prelude.{◌≡◌, ◌≤◌, ◌<◌, ◌+◌, ℕ, zero, suc, Bool, true, false, List, [], ◌∷◌, ◌++◌, length, map, slice_index_or, take, drop, ◌^◌, Some, None, Ok, Result, MatchResult}
+use Rattle.std.specs.Prelude.{◌≡◌, ◌≤◌, ◌<◌, ◌+◌, ℕ, zero, suc, Bool, true, false, List, [], ◌∷◌, ◌++◌, length, map, slice_index_or, take, drop, ◌^◌, Option, Some, None, Ok, Result, MatchResult}
 use Rattle.std.specs.Global.{Vec}
 use Rattle.std.specs.List.{AllByRecursion}
 use Rattle.std.specs.Ordering.{is_eq}
@@ -180,11 +180,17 @@ pub record IsWayTo (columns : List Collation) (entry : List Value) (depth : ℕ)
   pub other : IsEqualAt columns entry (map (λ kid. kid.1) t.kids) place → ⊥
   pub child_is : child ≡ child_at place (children (top depth) t.kids) (top depth t.last)
 
--- where a leaf hasn't the entry, and the place is that of it, packed pages have to take its place
-abbrev pub PlansLeaf : PageMap → PageMap → ℕ → ℕ → ℕ → List ℕ → Result Packed Fault → Type 0
+-- the leaf has the entry too; or packed pages have to take its place
+abbrev pub IsPutOrPlanned : PageMap → PageMap → ℕ → ℕ → ℕ → Entry → Leaf → List ℕ → Option Packed → Type 0
+IsPutOrPlanned old new size number place entry t free None = IsPut old new size number zero (entries_put place entry t) (pages_of zero t) free
+IsPutOrPlanned old new size number place entry t free (Some packed) =
+    IsPlanned old new size zero (entries_put place entry t) (below_of zero t) free packed
+
+-- an entry is put on a leaf, after so many of its entries, or packed pages have to take the leaf's place
+abbrev pub PlansLeaf : PageMap → PageMap → ℕ → ℕ → ℕ → List ℕ → Result (Option Packed) Fault → Type 0
 PlansLeaf old new size number place payload result = (entry : Entry) (ways : ℕ) (t : Leaf) (free : List ℕ) → StandsUnder old size number ways zero t free
     → IsPageSize size → IsRecord payload entry → place ≤ length t.entries
-    → MatchResult result (IsPlanned old new size zero (entries_put place entry t) (below_of zero t) free) IsOutsideOrFull
+    → MatchResult result (IsPutOrPlanned old new size number place entry t free) IsOutsideOrFull
 
 -- where packed pages have to take the place of a child, this becomes of the page above
 abbrev pub Widens : PageMap → PageMap → ℕ → ℕ → ℕ → ℕ → Packed → Bool → Result Change Fault → Type 0

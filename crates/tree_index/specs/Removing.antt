@@ -20,11 +20,18 @@ abbrev pub FindsDepth : PageMap → ℕ → ℕ → ℕ → Result ℕ Fault →
 FindsDepth pages size number ways result = (depth : ℕ) (t : Tree depth) → AreWhole size pages → top depth t ≡ number → Lies pages size depth t
     → depth ≤ ways → MatchResult result (λ found. found ≡ depth) IsOutside
 
--- where a tree is a leaf, a packed page has to take its place, without the entry at a place
-abbrev pub CutsLeaf : PageMap → PageMap → ℕ → ℕ → ℕ → Result Packed Fault → Type 0
+-- what became of a tree's page at the top whose entry was taken out: the tree under the page has these entries now; or packed pages have to take its
+-- place
+abbrev pub IsTakenOut : PageMap → PageMap → ℕ → ℕ → (depth : ℕ) → List Entry → Tree depth → List ℕ → Loss → Type 0
+IsTakenOut old new size number depth entries t free Still = ⊥
+IsTakenOut old new size number depth entries t free Done = IsPut old new size number depth entries (pages_of depth t) free
+IsTakenOut old new size number depth entries t free (Spread packed) = IsPlanned old new size depth entries (below_of depth t) free packed
+
+-- where a tree is a leaf, this becomes of it without the entry at a place
+abbrev pub CutsLeaf : PageMap → PageMap → ℕ → ℕ → ℕ → Result Loss Fault → Type 0
 CutsLeaf old new size number place result = (ways : ℕ) (t : Leaf) (free : List ℕ) → StandsUnder old size number ways zero t free → IsPageSize size
     → place < length t.entries
-    → MatchResult result (IsPlanned old new size zero (without_at place (entries_of zero t)) (below_of zero t) free) IsOutside
+    → MatchResult result (IsTakenOut old new size number zero (without_at place (entries_of zero t)) t free) IsOutside
 
 -- how many entries are on the page at the top
 abbrev pub count_at : (depth : ℕ) → Tree depth → ℕ
@@ -37,12 +44,12 @@ entries_cut zero place t = without_at place (entries_of zero t)
 entries_cut (suc depth) place t =
     entries_around depth place (entries_of depth (tree_at place t.kids t.last) ++ entries_of depth (tree_at (suc place) t.kids t.last)) t
 
--- where a tree stands under a page, packed pages have to take its place, without the entry at a place; or memory was short, a disk's call
--- failed, or there are as many pages as there may be
-abbrev pub TakesAt : PageMap → PageMap → ℕ → ℕ → ℕ → ℕ → Result Packed Fault → Type 0
+-- where a tree stands under a page, this becomes of it without the entry at a place; or memory was short, a disk's call failed, or there are as
+-- many pages as there may be
+abbrev pub TakesAt : PageMap → PageMap → ℕ → ℕ → ℕ → ℕ → Result Loss Fault → Type 0
 TakesAt old new size number place depth result = (ways : ℕ) (t : Tree depth) (free : List ℕ) → StandsUnder old size number ways depth t free
     → IsPageSize size → place < count_at depth t
-    → MatchResult result (IsPlanned old new size depth (entries_cut depth place t) (below_of depth t) free) IsOutsideOrFull
+    → MatchResult result (IsTakenOut old new size number depth (entries_cut depth place t) t free) IsOutsideOrFull
 
 -- what became of a page: the entry isn't there, and nothing changed; or it is, and the tree under the page hasn't it now; or packed pages have
 -- to take its place

@@ -15,7 +15,7 @@ use std::alloc::Global;
 use tree_overflow::write_payload;
 use tree_pack::{Packed, entry_cell, splice};
 use tree_page::TreePage;
-use tree_store::{Fan, store};
+use tree_store::{Fan, place_on, store};
 
 /// What becomes of a page into whose tree an entry is put.
 #[derive(Drop)]
@@ -37,14 +37,15 @@ pub(crate) struct New<'a> {
     pub payload: &'a [u8],
 }
 
-/// The pages that a leaf gives way to when an entry is put at a place of it. Its payload is written, the pages aren't.
-fn packed_leaf<P: WritePages>(
+/// Puts an entry on a leaf, before the one at a place: its cell is written where the page has room for it. None then; else the pages that the leaf
+/// gives way to, which aren't stored yet.
+fn leaf_with<P: WritePages>(
     alloc: Global,
     pages: &mut P,
     number: u32,
     place: usize,
     new: New<'_>,
-) -> R<Packed>
+) -> R<Option<Packed>>
     ensures planned { IsTrue (P.Pages.tells (P.Pages.below pages.old))
         → PlansLeaf (P.Pages.map pages.old) (P.Pages.map pages.new)
         (P.Pages.limits (P.Pages.below pages.old)).page number place
@@ -56,8 +57,13 @@ fn packed_leaf<P: WritePages>(
     let most = most_in(pages.page_size());
     let held = write_payload(alloc, pages, most, new.payload)?;
     let cell = entry_cell(alloc, new.payload.len() as u64, held.as_slice())?;
+    if place_on(alloc, pages, number, place, cell.as_slice())? {
+        return Ok(None);
+    }
     pages.load(number)?;
-    splice(alloc, pages.loaded(), 0, place, 0, &[cell.as_slice()], None)
+    let cells = [cell.as_slice()];
+    let packed = splice(alloc, pages.loaded(), 0, place, 0, &cells, None)?;
+    Ok(Some(packed))
 }
 
 /// The cell with this child in place of its own.
@@ -157,7 +163,9 @@ pub(crate) fn packed_below<P: WritePages>(
     let (place, child) = match step_from(pages, number, new.key, scratch)? {
         Step::Found(_) => return Ok(Change::There),
         Step::Here(place) => {
-            let packed = packed_leaf(alloc, pages, number, place, new)?;
+            let Some(packed) = leaf_with(alloc, pages, number, place, new)? else {
+                return Ok(Change::Same);
+            };
             return Ok(Change::Spread(packed, ways == 0));
         }
         Step::Down(place, child) => (place, child),

@@ -19,7 +19,7 @@ use sqlval::{Collation, Damage, Fault, R, Value};
 use std::alloc::Global;
 use tree_pack::{Packed, splice};
 use tree_page::TreePage;
-use tree_store::store;
+use tree_store::{store, take_off};
 
 /// What becomes of a page out of whose tree an entry is taken.
 #[derive(Drop)]
@@ -49,8 +49,9 @@ fn depth_below<P: Pages>(pages: &mut P, number: u32, ways: u32) -> R<u32>
     Ok(depth_below(pages, child, ways - 1)? + 1)
 }
 
-/// The page that a leaf gives way to when the entry at a place of it is taken out. Its overflow pages are given back, the page isn't stored.
-fn cut_leaf<P: WritePages>(alloc: Global, pages: &mut P, number: u32, place: usize) -> R<Packed>
+/// Takes the entry at a place of a leaf out, and gives its overflow pages back: the cell is taken off the page where its bytes can be told as free;
+/// else the leaf gives way to a page that isn't stored yet.
+fn cut_leaf<P: WritePages>(alloc: Global, pages: &mut P, number: u32, place: usize) -> R<Loss>
     ensures cut { IsTrue (P.Pages.tells (P.Pages.below pages.old))
         → CutsLeaf (P.Pages.map pages.old) (P.Pages.map pages.new)
         (P.Pages.limits (P.Pages.below pages.old)).page number place result }
@@ -58,18 +59,22 @@ fn cut_leaf<P: WritePages>(alloc: Global, pages: &mut P, number: u32, place: usi
     ensures causes { Causes result (P.Pages.failures pages.old) (P.Pages.failures pages.new) ⊥ }
 {
     free_entry(alloc, pages, number, place)?;
+    if take_off(alloc, pages, number, place)? {
+        return Ok(Loss::Done);
+    }
     pages.load(number)?;
-    splice(alloc, pages.loaded(), 0, place, 1, &[], None)
+    let packed = splice(alloc, pages.loaded(), 0, place, 1, &[], None)?;
+    Ok(Loss::Spread(packed))
 }
 
-/// The pages that the top of a tree of this depth gives way to when the entry at a place of it is taken out. All pages below it are stored.
+/// Takes the entry at a place of the top of a tree of this depth out: what becomes of that page. All pages below it are stored then.
 fn taken_out<P: WritePages>(
     alloc: Global,
     pages: &mut P,
     number: u32,
     place: usize,
     depth: u32,
-) -> R<Packed>
+) -> R<Loss>
     ensures taken { IsTrue (P.Pages.tells (P.Pages.below pages.old))
         → TakesAt (P.Pages.map pages.old) (P.Pages.map pages.new)
         (P.Pages.limits (P.Pages.below pages.old)).page number place depth result }
@@ -80,7 +85,8 @@ fn taken_out<P: WritePages>(
     if depth == 0 {
         return cut_leaf(alloc, pages, number, place);
     }
-    parted(alloc, pages, number, place, depth - 1)
+    let packed = parted(alloc, pages, number, place, depth - 1)?;
+    Ok(Loss::Spread(packed))
 }
 
 /// Whether packed pages are one page without cells.
@@ -160,10 +166,7 @@ fn removed_below<P: WritePages>(
         (P.Pages.count pages.new ≡ (P.Pages.limits (P.Pages.below pages.new)).most) }
 {
     let (place, child) = match step_from(pages, number, key, scratch)? {
-        Step::Found(place) => {
-            let packed = taken_out(alloc, pages, number, place, depth)?;
-            return Ok(Loss::Spread(packed));
-        }
+        Step::Found(place) => return taken_out(alloc, pages, number, place, depth),
         Step::Here(_) => return Ok(Loss::Still),
         Step::Down(place, child) => (place, child),
     };

@@ -3,7 +3,7 @@ use Rattle.std.proofs.Common.{◌≡◌, ◌⊎◌, inl, inr, ◌≤◌, ◌<◌
 use Rattle.std.specs.Int.{w16, to_be_bytes}
 use Rattle.std.specs.List.{AllByRecursion, flat_map, insert}
 use Rattle.std.proofs.lemmas.Grind.{flat_map-append}
-use Rattle.std.proofs.lemmas.List.{take_at, drop_at, drop_all, drop_more, length-append, length-drop, length-take-le}
+use Rattle.std.proofs.lemmas.List.{take_at, take-take, take-append-le, drop_at, drop_all, drop_more, drop-take, drop-append-le, length-append, length-drop, length-take-le}
 use Rattle.tree_page.specs.Cells.{Span, pointer, Pairwise, IsAt, IsApart, AreApart, page_header, front, IsTreePage}
 use Rattle.tree_page.specs.Node.{Node, Rows, Keys, Entries, Between, IsRowCell, IsKeyCell, IsEntryCell, IsBetweenCell, code_of, right_of, Say, IsNode}
 use Rattle.tree_page.proofs.HeaderLemmas.{length-pointers, same_length, length-header}
@@ -11,8 +11,8 @@ use Rattle.std.specs.Global.{Vec}
 use Rattle.std.specs.Prelude.{Option, Some, None, Result, Ok, Err, IfOk, IfSome}
 use Rattle.sqlval.specs.declared.fault.Fault.{Fault}
 use Rattle.tree_pack.specs.Placing.{IsPlaced, Places}
-use Rattle.tree_pack.specs.Replacing.{written_over, no_span, IsCellAt}
-use Rattle.tree_pack.specs.Removing.{without_pointer}
+use Rattle.tree_pack.specs.Replacing.{written_over, no_span, IsCellAt, IsPlaceOn}
+use Rattle.tree_pack.specs.Removing.{with_block, without_pointer}
 use Rattle.tree_pack.specs.Splicing.{spliced, IsUsual}
 use Rattle.tree_pack.specs.declared.removing.Free.{Free}
 use Rattle.tree_pack.specs.declared.replacing.CellPlace.{CellPlace}
@@ -372,6 +372,62 @@ is_cleared page start old new is place found count free mid bytes written cell c
     behind_of : (one f : Span) (at size : ℕ) → one.from ≡ at → at + size ≤ one.to → size ≡ 4 → f.from ≡ 0 → f.to ≡ start + 8 + length (right_of old) + 2 * length is.cells → IsApart one f → start + 8 + length (right_of old) + 2 * length is.cells ≤ at
     behind_of one f at size from_is le four zero_is end_is (inl before) = absurd (omega (arith, before, zero_is, le, four))
     behind_of one f at size from_is le four zero_is end_is (inr behind) = omega (arith, behind, from_is, end_is)
+
+-- ---- the bytes that are written over
+
+-- the header's bytes but the first
+abbrev pub header_with : ℕ → Free → List ℕ
+header_with count free = to_be_bytes w16 free.first ++ (to_be_bytes w16 count ++ (to_be_bytes w16 free.content ++ (free.fragments ∷ [])))
+
+-- the page with the pointers after one of them one place before, and with a header
+abbrev pub over_twice : List ℕ → ℕ → ℕ → ℕ → List ℕ → List ℕ
+over_twice page start pointer_at last header = written_over (start + 1) header (written_over pointer_at (take (last - (pointer_at + 2)) (drop (pointer_at + 2) page) ++ (0 ∷ 0 ∷ [])) page)
+
+-- that is the page without the pointer
+over_is : (page : List ℕ) (start pointer_at last count : ℕ) (free : Free) → start + 8 ≤ pointer_at → pointer_at + 2 ≤ last → last ≤ length page
+    → over_twice page start pointer_at last (header_with count free) ≡ without_pointer page start pointer_at last count free
+over_is page start pointer_at last count free behind before within =
+    let lasts = take (last - (pointer_at + 2)) (drop (pointer_at + 2) page) in
+    let none : List ℕ = 0 ∷ 0 ∷ [] in
+    let ends = drop last page in
+    let header = header_with count free in
+    let fronts = take pointer_at page in
+    let inner = take (pointer_at - (start + 8)) (drop (start + 8) page) in
+    let left : length (drop (pointer_at + 2) page) ≡ length page - (pointer_at + 2) = length-drop (pointer_at + 2) page in
+    let fronts_size : length fronts ≡ pointer_at = length-take-le pointer_at page (omega (arith, before, within)) in
+    let lasts_size : length lasts ≡ last - (pointer_at + 2) = length-take-le (last - (pointer_at + 2)) (drop (pointer_at + 2) page) (omega (arith, left, within)) in
+    let end : pointer_at + length (lasts ++ none) ≡ last = omega (arith, length-append lasts none, lasts_size, before) in
+    let mid = written_over pointer_at (lasts ++ none) page in
+    let later = (lasts ++ none) ++ ends in
+    let mid_is : mid ≡ fronts ++ later = ap (λ (n : ℕ). fronts ++ ((lasts ++ none) ++ drop n page)) end in
+    let one : take (start + 1) mid ≡ take (start + 1) page =
+    ap (take (start + 1)) mid_is ∙ take-append-le (start + 1) fronts later (omega (arith, fronts_size, behind)) ∙ take-take (start + 1) pointer_at page (omega (arith, behind)) in
+    let seven : start + 1 + length header ≡ start + 8 = omega arith in
+    let span : start + 8 + (pointer_at - (start + 8)) ≡ pointer_at = omega (arith, behind) in
+    let fronts_are : drop (start + 8) fronts ≡ inner = ap (λ (n : ℕ). drop (start + 8) (take n page)) (sym span) ∙ drop-take (start + 8) (pointer_at - (start + 8)) page in
+    let two : drop (start + 1 + length header) mid ≡ inner ++ later =
+    ap (λ (n : ℕ). drop n mid) seven ∙ ap (drop (start + 8)) mid_is ∙ drop-append-le (start + 8) fronts later (omega (arith, fronts_size, behind)) ∙ ap (λ (x : List ℕ). x ++ later) fronts_are in
+    ap (λ (x : List ℕ). x ++ (header ++ drop (start + 1 + length header) mid)) one ∙ ap (λ (x : List ℕ). take (start + 1) page ++ (header ++ x)) two
+    ∙ flat (take (start + 1) page) (to_be_bytes w16 free.first) (to_be_bytes w16 count) (to_be_bytes w16 free.content) (free.fragments ∷ []) inner lasts none ends
+  where
+    flat : (a first counted content fragments inner lasts none ends : List ℕ) → a ++ ((first ++ (counted ++ (content ++ fragments))) ++ (inner ++ ((lasts ++ none) ++ ends)))
+        ≡ a ++ (first ++ (counted ++ (content ++ (fragments ++ (inner ++ (lasts ++ (none ++ ends)))))))
+    flat a first counted content fragments inner lasts none ends = simp append_assoc
+
+-- with the freeblock, if the cell becomes one, it says what the other cells say
+pub is_cut : (page : List ℕ) (start : ℕ) (old new : Node) (is : IsNode page start old) (place : ℕ) (found : CellPlace) (count : ℕ) (free : Free) (header : List ℕ) (block : Option (List ℕ)) → IsCellAt page start old is place found → IsPlaceOn start (length page) found → count + 1 ≡ found.count
+    → header ≡ header_with count free → IfSome block (λ bytes. (length bytes ≡ 4) × (found.at + 4 ≤ found.end)) → found.end ≤ length page → code_of new ≡ code_of old → right_of new ≡ right_of old → Say (length page) (without place is.cells) new
+    → IsPlaced page start (without place is.cells) new (with_block found.at block (over_twice page start found.pointer found.last header))
+is_cut page start old new is place found count free header None cell on count_is header_is told within same last say =
+    let written_is = ap (over_twice page start found.pointer found.last) header_is ∙ over_is page start found.pointer found.last count free on.behind on.before on.within in
+    is_removed page start old new is place found count free (over_twice page start found.pointer found.last header) cell count_is written_is same last say
+is_cut page start old new is place found count free header (Some bytes) cell on count_is header_is told within same last say =
+    let mid = over_twice page start found.pointer found.last header in
+    let mid_is : mid ≡ without_pointer page start found.pointer found.last count free = ap (over_twice page start found.pointer found.last) header_is ∙ over_is page start found.pointer found.last count free on.behind on.before on.within in
+    let long : length mid ≡ length page = ap length mid_is ∙ (less_of page start old is place found count free cell count_is).long in
+    let four = told.0 in
+    let room = told.1 in
+    is_cleared page start old new is place found count free mid bytes (written_over found.at bytes mid) cell count_is mid_is four room (omega (arith, long, four, room, within)) refl same last say
 
 -- ---- another cell in its place
 

@@ -1,6 +1,11 @@
 -- One cell less on a page of a tree (Database File Format, "B-tree Pages").
-use Rattle.std.specs.Prelude.{◌+◌, ◌-◌, ℕ, List, ◌∷◌, ◌++◌, take, drop}
+use Rattle.std.specs.Prelude.{◌≡◌, ◌≤◌, ◌+◌, ◌-◌, ℕ, List, [], ◌∷◌, ◌++◌, length, take, drop, IfSome, Option, Some, None}
 use Rattle.std.specs.Int.{w16, to_be_bytes}
+use Rattle.tree_page.specs.Node.{Node, IsNode, Say, code_of, right_of}
+use Rattle.tree_pack.specs.Placing.{IsPlaced}
+use Rattle.tree_pack.specs.Replacing.{written_over}
+use Rattle.tree_pack.specs.Splicing.{spliced, IsUsual}
+use Rattle.tree_pack.specs.declared.removing.CellCut.{CellCut}
 use Rattle.tree_pack.specs.declared.removing.Free.{Free}
 
 -- The page without the pointer at an offset, of those that end at another, with so many cells counted, and this said of its free bytes.
@@ -12,3 +17,31 @@ without_pointer page start pointer last count free =
     ++ (to_be_bytes w16 free.content
     ++ (free.fragments
     ∷ (take (pointer - (start + 8)) (drop (start + 8) page) ++ (take (last - (pointer + 2)) (drop (pointer + 2) page) ++ (0 ∷ 0 ∷ drop last page)))))))
+
+-- ---- the same page, written in its place
+
+-- The cell's pointer stands after the header and before the end of the pointers, and the freeblock's first bytes after them. All is on the page.
+pub record IsCutOn (page : List ℕ) (start : ℕ) (cut : CellCut) : Type 0 where
+  pub behind : start + 8 ≤ cut.pointer
+  pub before : cut.pointer + 2 ≤ cut.end
+  pub within : cut.end ≤ length page
+  pub head : length cut.header ≡ 7
+  pub block : IfSome cut.block (λ bytes. (length bytes ≡ 4) × (cut.end ≤ cut.at) × (cut.at + 4 ≤ length page))
+
+-- the page with a freeblock at this offset, if there is one
+abbrev pub with_block : ℕ → Option (List ℕ) → List ℕ → List ℕ
+with_block at None page = page
+with_block at (Some bytes) page = written_over at bytes page
+
+-- The page with the pointers after the cell's one place before and two zero bytes after them, the header without the cell, and the freeblock.
+abbrev pub cut_at : CellCut → ℕ → List ℕ → List ℕ
+cut_at cut start page =
+    let pointers = take (cut.end - (cut.pointer + 2)) (drop (cut.pointer + 2) page) ++ (0 ∷ 0 ∷ []) in
+    with_block cut.at cut.block (written_over (start + 1) cut.header (written_over cut.pointer pointers page))
+
+-- Where a page says a node, and its cells without the one at a place say another of the same type and with the same last child, the page with these
+-- bytes says that one, and a cell is left on it.
+abbrev pub CutsAt : List ℕ → ℕ → ℕ → Option CellCut → Type 0
+CutsAt page start place found = (old new : Node) (is : IsNode page start old) → IsUsual page start → place + 1 ≤ length is.cells
+    → code_of new ≡ code_of old → right_of new ≡ right_of old → Say (length page) (spliced place 1 [] is.cells) new
+    → IfSome found (λ cut. IsPlaced page start (spliced place 1 [] is.cells) new (cut_at cut start page) × (2 ≤ length is.cells))

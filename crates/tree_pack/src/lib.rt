@@ -20,6 +20,7 @@ pub use laws::{
     sides_are_joined,
 };
 pub use placing::{CellRoom, place_cell, room_for};
+pub use removing::{CellCut, cut_for};
 pub use rewriting::put_payload;
 pub use splicing::{join, splice};
 pub use spreading::{Packed, Piece, pack};

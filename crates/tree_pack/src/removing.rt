@@ -1,7 +1,8 @@
 //! Taking a cell off a page without moving the others.
 
-ghost use Rattle.std.specs.Prelude.{◌≡◌, ◌+◌, ◌≤◌, ◌<◌, ◌^◌, [], length, IfErr, IfOk, IfSome};
-ghost use Rattle.tree_pack.specs.Removing.{without_pointer};
+ghost use Rattle.std.specs.Prelude.{◌≡◌, ◌+◌, ◌≤◌, ◌<◌, ◌^◌, [], ◌∷◌, ◌++◌, length, IfErr, IfOk, IfSome};
+ghost use Rattle.std.specs.Int.{w16, to_be_bytes};
+ghost use Rattle.tree_pack.specs.Removing.{CutsAt, IsCutOn, without_pointer};
 ghost use Rattle.tree_pack.specs.Splicing.{SplicesOne};
 
 use crate::replacing::{CellPlace, cell_at, write_over};
@@ -94,6 +95,51 @@ fn free_with(page: &[u8], start: usize, cell: CellPlace) -> Option<(Free, Option
         fragments,
     };
     Some((free, Some(block_bytes(block.next, size))))
+}
+
+/// The header's bytes but the first, with so many cells counted and this said of the free bytes.
+fn header_of(count: u16, free: Free) -> [u8; 7]
+    ensures { result ≡ to_be_bytes w16 free.first ++ (to_be_bytes w16 count
+        ++ (to_be_bytes w16 free.content ++ (free.fragments ∷ []))) }
+{
+    let [a, b] = free.first.to_be_bytes();
+    let [c, d] = count.to_be_bytes();
+    let [e, f] = free.content.to_be_bytes();
+    [a, b, c, d, e, f, free.fragments]
+}
+
+/// What is written on a page when a cell goes.
+#[derive(Clone, Copy)]
+pub struct CellCut {
+    /// Where its pointer stands.
+    pub pointer: usize,
+    /// Where the pointers of all cells end.
+    pub end: usize,
+    /// The header's bytes but the first: the first freeblock, how many cells are left, where the first of them begins, and the fragments.
+    pub header: [u8; 7],
+    /// Where it begins.
+    pub at: usize,
+    /// The first four bytes of the freeblock that it becomes. None where it is room before the other cells.
+    pub block: Option<[u8; 4]>,
+}
+
+/// What is written on a page when the cell at a place goes. None where its bytes aren't to be told as free, and for the only cell of a page.
+pub fn cut_for(page: &[u8], start: usize, place: usize) -> Option<CellCut>
+    ensures on_page { IfSome result (IsCutOn page.now start) }
+    ensures cut { CutsAt page.now start place result }
+{
+    let cell = cell_at(page, start, place)?;
+    if cell.count < 2 || cell.at < cell.last || page.len() < cell.end {
+        return None;
+    }
+    let (free, block) = free_with(page, start, cell)?;
+    Some(CellCut {
+        pointer: cell.pointer,
+        end: cell.last,
+        header: header_of((cell.count - 1) as u16, free),
+        at: cell.at,
+        block,
+    })
 }
 
 /// The page without a pointer, with `count` cells counted, and this said of its free bytes. (`Memory` alone.)

@@ -7,7 +7,7 @@ ghost use Rattle.tree_pack.specs.Splicing.{Splices, SplicesOne, Joins};
 
 use crate::place_cell;
 use crate::removing::remove_cell;
-use crate::replacing::replace_cells;
+use crate::replacing::{cell_at, replace_cells};
 use crate::spreading::{Packed, pack};
 use sqlval::{Damage, Fault, R};
 use std::alloc::Global;
@@ -56,6 +56,14 @@ fn cells_around<'a>(
     Ok(all)
 }
 
+/// Whether the cell at a place of a page is as long as another.
+fn is_as_long(page: &[u8], start: usize, place: usize, cell: &[u8]) -> bool {
+    match cell_at(page, start, place) {
+        Some(there) => there.end.saturating_sub(there.at) == cell.len(),
+        None => false,
+    }
+}
+
 /// The page with a cell in the place of another: written over it, if it is as long, else put where there is room without moving any.
 /// (`Memory` alone.)
 fn exchange_cell(
@@ -68,8 +76,8 @@ fn exchange_cell(
     ensures exchanged { SplicesOne page.now start place 1 (cell.now ∷ []) result }
     ensures refused { IfErr result (λ fault. fault ≡ Fault.Memory) }
 {
-    if let Some(same) = replace_cells(alloc, page, start, place, &[cell])? {
-        return Ok(Some(same));
+    if is_as_long(page, start, place, cell) {
+        return replace_cells(alloc, page, start, place, &[cell]);
     }
     match remove_cell(alloc, page, start, place)? {
         Some(without) => place_cell(alloc, &without, start, place, cell),

@@ -9,3 +9,4 @@ pub mod StoredPages
 pub mod RootedPages
 pub mod Staying
 pub mod PlacedPages
+pub mod CutPages

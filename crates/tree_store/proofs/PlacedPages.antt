@@ -18,7 +18,7 @@ start_le n = grind (arith, common_steps)
 
 -- ---- writing over a part of a page
 
-over_long : (offset : ℕ) (bytes page : List ℕ) → offset + length bytes ≤ length page → length (written_over offset bytes page) ≡ length page
+pub over_long : (offset : ℕ) (bytes page : List ℕ) → offset + length bytes ≤ length page → length (written_over offset bytes page) ≡ length page
 over_long offset bytes page le =
     let before = length-take-le offset page (omega (arith, le)) in
     let after = length-drop (offset + length bytes) page in
@@ -27,13 +27,13 @@ over_long offset bytes page le =
     omega (arith, before, after, both, all, le)
 
 -- what is written over a page that was written
-over_written : (map mid : PageMap) (number offset : ℕ) (bytes page : List ℕ) → Has map number → mid ≡ with_page map number page
+pub over_written : (map mid : PageMap) (number offset : ℕ) (bytes page : List ℕ) → Has map number → mid ≡ with_page map number page
     → with_page mid number (written_over offset bytes (page_at mid number)) ≡ with_page map number (written_over offset bytes page)
 over_written map mid number offset bytes page has is =
     subst (λ (m : PageMap). with_page m number (written_over offset bytes (page_at m number)) ≡ with_page map number (written_over offset bytes page)) (sym is)
     (ap (λ (l : List ℕ). with_page (with_page map number page) number (written_over offset bytes l)) (put_there map number page has) ∙ set-set map (number - 1) page (written_over offset bytes page))
 
-still_there : (map mid : PageMap) (size number : ℕ) (page : List ℕ) → Has map number → length page ≡ size → mid ≡ with_page map number page → IsThere mid size number
+pub still_there : (map mid : PageMap) (size number : ℕ) (page : List ℕ) → Has map number → length page ≡ size → mid ≡ with_page map number page → IsThere mid size number
 still_there map mid size number page has sized is = subst (λ (m : PageMap). IsThere m size number) (sym is) (record {
   has = record { first = has.first; last = (let same = length-set map (number - 1) page in let last = has.last in omega (arith, same, last)) };
   whole = ap length (put_there map number page has) ∙ sized;

@@ -17,6 +17,7 @@ use Rattle.tree_pack.specs.Building.{right_room}
 use Rattle.tree_pack.specs.Parts.{total}
 use Rattle.tree_pack.specs.Placing.{IsPlaced}
 use Rattle.tree_pack.specs.Packing.{images, divider_bytes}
+use Rattle.tree_pack.specs.Splicing.{spliced}
 use Rattle.tree_pack.specs.declared.spreading.Packed.{Packed}
 use Rattle.tree_store.specs.declared.storing.Fan.{Fan}
 
@@ -52,6 +53,15 @@ PlacesOn old new size number place cell result = (free : List ℕ) → AreFree o
     → (was now : Node) (is : IsNode (page_at old number) (start_of number) was) → size ≤ 2 ^ 16 → place ≤ length is.cells
     → code_of now ≡ code_of was → right_of now ≡ right_of was → Say size (insert is.cells place cell) now
     → MatchResult result (IsPlacedOn old new size free number (insert is.cells place cell) now) IsOutside
+
+-- Where a page that isn't free says a node, and its cells without the one at a place say another of the same type and with the same last child, the
+-- page says that one then, and a cell is left on it; or its bytes can't be told as free where they lie; or memory was short, or a disk's call failed.
+abbrev pub TakesOff : PageMap → PageMap → ℕ → ℕ → ℕ → Result Bool Fault → Type 0
+TakesOff old new size number place result = (free : List ℕ) → AreFree old size free → Has old number → occurs number free ≡ 0
+    → (was now : Node) (is : IsNode (page_at old number) (start_of number) was) → 512 ≤ size → size ≤ 2 ^ 16 → place < length is.cells
+    → code_of now ≡ code_of was → right_of now ≡ right_of was → Say size (spliced place 1 [] is.cells) now
+    → MatchResult result
+    (λ taken. IsPlacedOn old new size free number (spliced place 1 [] is.cells) now taken × (taken ≡ true → 2 ≤ length is.cells)) IsOutside
 
 -- ---- pages side by side
 

@@ -3,4 +3,4 @@
 
 mod storing;
 
-pub use storing::{Fan, give_all, place_on, put_node, raise, store, store_root};
+pub use storing::{Fan, give_all, place_on, put_node, raise, store, store_root, take_off};

@@ -1,6 +1,6 @@
 //! Storing the pages of a tree.
 
-ghost use Rattle.std.specs.Prelude.{◌≡◌, ◌≤◌, ◌-◌, ◌++◌, [], ◌∷◌, drop, take, map, length, true, IsTrue, IfOk, IfErr, MatchResult};
+ghost use Rattle.std.specs.Prelude.{◌≡◌, ◌≤◌, ◌+◌, ◌-◌, ◌++◌, [], ◌∷◌, drop, take, map, length, true, IsTrue, IfOk, IfErr, MatchResult};
 ghost use Rattle.std.specs.Int.{w16, w32, to_be_bytes};
 ghost use Rattle.sqlval.specs.Faults.{IsOutside};
 ghost use Rattle.pages.specs.Calls.{Causes, Stays};
@@ -8,14 +8,14 @@ ghost use Rattle.pages.specs.Counting.{start_of};
 ghost use Rattle.pages.specs.Map.{page_at, IsThere};
 ghost use Rattle.tree_pack.specs.Building.{right_room};
 ghost use Rattle.tree_pack.specs.Packing.{images};
-ghost use Rattle.tree_store.specs.Storing.{PlacesOn, Rewrites, Stores, Roots, cells_over, cells_of};
+ghost use Rattle.tree_store.specs.Storing.{PlacesOn, TakesOff, Rewrites, Stores, Roots, cells_over, cells_of};
 ghost use Rattle.tree_store.specs.Steps.{TakesMore, WritesAll, GivesAll, Raises};
 
 use freelist::{give, take};
 use pages::WritePages;
 use sqlval::{Damage, Fault, R};
 use std::alloc::Global;
-use tree_pack::{CellRoom, Packed, Piece, build, fits, room_for};
+use tree_pack::{CellCut, CellRoom, Packed, Piece, build, cut_for, fits, room_for};
 use tree_page::Kind;
 
 /// What an interior page gets for pages side by side.
@@ -86,6 +86,44 @@ pub fn place_on<P: WritePages>(
     pages.write_over(number, usize::from(room.at), cell)?;
     pages.write_over(number, room.pointer, pointers.as_slice())?;
     pages.write_over(number, start + 3, &counted(room))?;
+    Ok(true)
+}
+
+/// The pointers after that of a cell that goes, and two zero bytes. (`Memory`.)
+fn pointers_without(alloc: Global, cut: CellCut, page: &[u8]) -> R<Vec<u8>>
+    requires before { cut.pointer + 2 ≤ cut.end }
+    requires within { cut.end ≤ length page.now }
+    ensures are { IfOk result (λ pointers. pointers.items
+        ≡ take (cut.end - (cut.pointer + 2)) (drop (cut.pointer + 2) page.now) ++ (0 ∷ 0 ∷ [])) }
+    ensures refused { IfErr result (λ fault. fault ≡ Fault.Memory) }
+{
+    let mut pointers = Vec::with_capacity(alloc, cut.end - cut.pointer)?;
+    pointers.extend_from_slice(&page[cut.pointer + 2..cut.end])?;
+    pointers.extend_from_slice(&[0, 0])?;
+    Ok(pointers)
+}
+
+/// Takes the cell at a place off a page without moving any other, if its bytes can be told as free where they lie, and a cell is left. Answers
+/// whether it did; if not, nothing changes. (`Memory`, and what `load` and `write_over` refuse.)
+pub fn take_off<P: WritePages>(alloc: Global, pages: &mut P, number: u32, place: usize) -> R<bool>
+    ensures taken { IsTrue (P.Pages.tells (P.Pages.below pages.old))
+        → TakesOff (P.Pages.map pages.old) (P.Pages.map pages.new)
+        (P.Pages.limits (P.Pages.below pages.old)).page number place result }
+    ensures kept { P.Pages.below pages.new ≡ P.Pages.below pages.old }
+    ensures causes { Causes result (P.Pages.failures pages.old) (P.Pages.failures pages.new) ⊥ }
+{
+    pages.load(number)?;
+    let page = pages.loaded();
+    let start = start_at(number);
+    let Some(cut) = cut_for(page, start, place) else {
+        return Ok(false);
+    };
+    let pointers = pointers_without(alloc, cut, page)?;
+    pages.write_over(number, cut.pointer, pointers.as_slice())?;
+    pages.write_over(number, start + 1, &cut.header)?;
+    if let Some(block) = cut.block {
+        pages.write_over(number, cut.at, &block)?;
+    }
     Ok(true)
 }
 

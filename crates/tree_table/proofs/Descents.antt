@@ -12,10 +12,10 @@ use Rattle.tree_page.specs.Reading.{NeverFall, below}
 use Rattle.tree_pack.specs.declared.spreading.Packed.{Packed}
 use Rattle.tree_store.specs.Saying.{Says}
 use Rattle.tree_store.specs.Sides.{children, Parted}
-use Rattle.tree_table.specs.Growing.{IsUnder, IsEdited, Edits, IsChanged, IsThereAt, IsDeep, IsWidened, PlansLeaf, Widens}
+use Rattle.tree_table.specs.Growing.{below_of, IsUnder, IsEdited, IsPlanned, Edits, IsChanged, IsThereAt, IsDeep, IsWidened, PlansLeaf, Widens}
 use Rattle.tree_table.specs.Rows.{payload_at, with_row, with_changes, IsLocal}
 use Rattle.tree_table.specs.Runs.{IsFirst, IsNoRun, ChangesLeaf}
-use Rattle.tree_table.specs.Stepping.{before, HasRowid, IsStep, StepsFrom, child_at}
+use Rattle.tree_table.specs.Stepping.{HasRowid, IsStep, StepsFrom, child_at}
 use Rattle.tree_table.specs.Tree.{Held, Tree, top, rows_of, Rises, IsSorted}
 use Rattle.tree_table.specs.declared.changing.RowChange.{RowChange}
 use Rattle.tree_table.specs.declared.descending.Step.{Step}
@@ -123,30 +123,36 @@ step_here old new size number ways place row zero low t high free under steps re
     by (Err fault) plans = plans ways low t high free under is.0 is.1
 step_here old new size number ways place row (suc depth) low t high free under steps result plans = absurd (inner_step old size number ways row.rowid depth low t high free under (Ok (Here place)) steps)
 
--- where the row is there, the leaf gives way to packed pages
+-- where the row is there, it is the leaf's one at this place
+pub leaf_at : (old : PageMap) (size number ways : ℕ) (rowid low : ℤ) (t : Tree zero) (high : ℤ) (free : List ℕ) → IsUnder old size number ways rowid zero low t high free
+    → (place : ℕ) → StepsFrom old size number rowid (Ok (Found place)) → (place < length t.rows) × ((d : Held) → (slice_index_or t.rows place d).row.rowid ≡ rowid)
+leaf_at old size number ways rowid low t high free under place steps =
+    let said = (under.lies).said in
+    let item : ℤ × Local = (pos 0, record { size = 0; bytes = [] }) in
+    let has = (leaf_step old size number ways rowid low t high free under (Ok (Found place)) steps).1 in
+    let lt : place < length t.rows = (let within = has.within in let e = said_counted old size said t.rows (under.lies).rows in omega (arith, within, e)) in
+    (lt, λ d. sym ((said_there old size said t.rows place item d (under.lies).rows lt).1.rowid) ∙ has.same item)
+
+-- an interior page has none
+pub not_inside : (old : PageMap) (size number ways place : ℕ) (rowid : ℤ) (depth : ℕ) (low : ℤ) (t : Tree (suc depth)) (high : ℤ) (free : List ℕ)
+    → IsUnder old size number ways rowid (suc depth) low t high free → StepsFrom old size number rowid (Ok (Found place)) → ⊥
+not_inside old size number ways place rowid depth low t high free under steps = inner_step old size number ways rowid depth low t high free under (Ok (Found place)) steps
+
+-- and the leaf gives way to packed pages
 pub step_cut : (old new : PageMap) (size number ways place : ℕ) (rowid : ℤ) (depth : ℕ) (low : ℤ) (t : Tree depth) (high : ℤ) (free : List ℕ) → IsUnder old size number ways rowid depth low t high free
     → StepsFrom old size number rowid (Ok (Found place)) → (changes : List RowChange) → IsFirst rowid changes → (result : Result (ℕ × Packed) Fault) → ChangesLeaf old new size number place changes result
     → MatchResult result (λ done. IsEdited (IsNoRun done.0) IsThereAt old new size number ways rowid (with_changes (take done.0 changes)) depth low t high free (Spread done.1 (nat_eq ways 0))) IsOutsideOrFull
-step_cut old new size number ways place rowid zero low t high free under steps changes first result cuts = by result cuts
+step_cut old new size number ways place rowid zero low t high free under steps changes first result cuts =
+    let at = leaf_at old size number ways rowid low t high free under place steps in
+    by result (cuts ways rowid low t high free under first at.0 at.1)
   where
-    said : List (ℤ × Local)
-    said = (under.lies).said
-
-    is : (place ≡ before rowid said) × HasRowid rowid said place
-    is = leaf_step old size number ways rowid low t high free under (Ok (Found place)) steps
-
-    lt : place < length t.rows
-    lt = (let within = is.1.within in let e = said_counted old size said t.rows (under.lies).rows in omega (arith, within, e))
-
-    same : (d : Held) → (slice_index_or t.rows place d).row.rowid ≡ rowid
-    same d = (let there = said_there old size said t.rows place (pos 0, record { size = 0; bytes = [] }) d (under.lies).rows lt in
-        sym (there.1).rowid ∙ is.1.same (pos 0, record { size = 0; bytes = [] }))
-
-    by : (result : Result (ℕ × Packed) Fault) → ChangesLeaf old new size number place changes result
+    by : (result : Result (ℕ × Packed) Fault)
+        → MatchResult result (λ done. IsLocal rowid high (with_changes (take done.0 changes))
+        × IsPlanned old new size number 0 low high (with_changes (take done.0 changes) (rows_of 0 t)) (below_of 0 t) free done.1) IsOutsideOrFull
         → MatchResult result (λ done. IsEdited (IsNoRun done.0) IsThereAt old new size number ways rowid (with_changes (take done.0 changes)) zero low t high free (Spread done.1 (nat_eq ways 0))) IsOutsideOrFull
-    by (Ok (count, packed)) cuts = (let c = cuts ways rowid low t high free under first lt same in (leaf_found old size number ways rowid low t high free under place steps, c.0, deep_leaf ways, c.1))
-    by (Err fault) cuts = cuts ways rowid low t high free under first lt same
-step_cut old new size number ways place rowid (suc depth) low t high free under steps changes first result cuts = absurd (inner_step old size number ways rowid depth low t high free under (Ok (Found place)) steps)
+    by (Ok (count, packed)) cut = (leaf_found old size number ways rowid low t high free under place steps, cut.0, deep_leaf ways, cut.1)
+    by (Err fault) outside = outside
+step_cut old new size number ways place rowid (suc depth) low t high free under steps changes first result cuts = absurd (not_inside old size number ways place rowid depth low t high free under steps)
 
 -- and where it isn't, there is none
 pub step_none : (old : PageMap) (size number ways place : ℕ) (rowid : ℤ) (depth : ℕ) (low : ℤ) (t : Tree depth) (high : ℤ) (free : List ℕ) → IsUnder old size number ways rowid depth low t high free

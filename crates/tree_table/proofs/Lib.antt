@@ -22,6 +22,7 @@ mod NewCells
 mod RunFrees
 mod RunPlaces
 mod RunMade
+mod TakenRows
 mod Replaced
 mod ChangedRuns
 mod Narrowing

@@ -21,10 +21,10 @@ use Rattle.tree_pack.specs.Splicing.{IsUsual}
 use Rattle.tree_pack.specs.declared.spreading.Packed.{Packed}
 use Rattle.tree_table.specs.Calls.{Stands, BecomesRows, IsTreeEdited}
 use Rattle.tree_table.specs.Freeing.{AreGivenBack}
-use Rattle.tree_table.specs.Growing.{below_of, IsPlanned, IsUnder, IsThereAt, Edits}
-use Rattle.tree_table.specs.Rows.{payload_at, with_changes, IsLocal}
+use Rattle.tree_table.specs.Growing.{below_of, IsPlanned, IsPut, IsUnder, IsThereAt, Edits}
+use Rattle.tree_table.specs.Rows.{payload_at, without_row, with_changes, IsLocal}
 use Rattle.tree_table.specs.Stepping.{HasRowid}
-use Rattle.tree_table.specs.Tree.{Held, IsHeldAs, Leaf, rows_of}
+use Rattle.tree_table.specs.Tree.{Held, IsHeldAs, Leaf, rows_of, pages_of}
 use Rattle.tree_table.specs.declared.changing.RowChange.{RowChange}
 use Rattle.tree_table.specs.declared.growing.Change.{Change}
 
@@ -187,6 +187,26 @@ ChangesLeaf old new size number place changes result = (ways : ℕ) (rowid low :
     → ((d : Held) → (slice_index_or t.rows place d).row.rowid ≡ rowid)
     → MatchResult result (λ done. IsLocal rowid high (with_changes (take done.0 changes))
     × IsPlanned old new size number 0 low high (with_changes (take done.0 changes) (rows_of 0 t)) (below_of 0 t) free done.1) IsOutsideOrFull
+
+-- ---- a row that goes alone
+
+-- there is one change, and it takes its row out
+abbrev pub IsRemoval : List RowChange → Type 0
+IsRemoval [] = ⊥
+IsRemoval (change ∷ []) = change.payload ≡ None
+IsRemoval (change ∷ next ∷ changes) = ⊥
+
+-- at `true` there is one change, which takes the leaf's row of this rowid out, and the leaf has the others; at `false` nothing has changed
+abbrev pub IsTakenOff : PageMap → PageMap → ℕ → ℕ → ℤ → List RowChange → ℤ → Leaf → ℤ → List ℕ → Bool → Type 0
+IsTakenOff old new size number rowid changes low t high free false = new ≡ old
+IsTakenOff old new size number rowid changes low t high free true =
+    IsRemoval changes × IsPut old new size number 0 low high (without_row rowid (rows_of 0 t)) (pages_of 0 t) free
+
+-- where a leaf has the row of a rowid at a place, it is taken out, or nothing has changed; or memory was short, or a disk's call failed
+abbrev pub TakesRow : PageMap → PageMap → ℕ → ℕ → ℕ → List RowChange → Result Bool Fault → Type 0
+TakesRow old new size number place changes result = (ways : ℕ) (rowid low : ℤ) (t : Leaf) (high : ℤ) (free : List ℕ)
+    → IsUnder old size number ways rowid 0 low t high free → place < length t.rows → ((d : Held) → (slice_index_or t.rows place d).row.rowid ≡ rowid)
+    → MatchResult result (IsTakenOff old new size number rowid changes low t high free) IsOutside
 
 -- ---- the tree
 

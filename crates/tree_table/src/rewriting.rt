@@ -8,6 +8,7 @@ use crate::changing::RowChange;
 use sqlval::R;
 use std::alloc::Global;
 use tree_pack::{Packed, put_payload};
+use tree_page::TreePage;
 
 /// Writes the payload of a change over that of the row at a place of a leaf, if it is as long and lies whole there. Answers whether it did.
 fn rewrite(page: &mut Vec<u8>, start: usize, place: usize, change: &RowChange) -> bool
@@ -16,6 +17,26 @@ fn rewrite(page: &mut Vec<u8>, start: usize, place: usize, change: &RowChange) -
     match &change.payload {
         Some(payload) => put_payload(page, start, place, payload.as_slice()),
         None => false,
+    }
+}
+
+/// Whether the row at the first of these places is as long as the first change has it: else the page needn't be copied to find out.
+fn begins_as_long(bytes: &[u8], start: usize, places: &[usize], changes: &[RowChange]) -> bool {
+    let Ok(page) = TreePage::over(bytes, start) else {
+        return false;
+    };
+    let Some((place, _)) = places.split_first() else {
+        return true;
+    };
+    let Some((change, _)) = changes.split_first() else {
+        return true;
+    };
+    let Some(payload) = &change.payload else {
+        return false;
+    };
+    match page.row(*place) {
+        Ok(row) => row.payload.size == payload.len() as u64,
+        Err(_) => false,
     }
 }
 
@@ -31,6 +52,9 @@ pub(crate) fn rewritten(
     ensures rewritten { Rewrites bytes.now start places.now changes.now result }
     ensures memory { IfErr result (λ fault. fault ≡ Memory) }
 {
+    if !begins_as_long(bytes, start, places, changes) {
+        return Ok(None);
+    }
     let mut page = bytes.to_vec(alloc)?;
     let most = places.len().min(changes.len());
     'places: for index in 0..most {

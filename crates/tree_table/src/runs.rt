@@ -5,7 +5,7 @@ ghost use Rattle.sqlval.specs.Faults.{IsNotDiskFault};
 ghost use Rattle.pages.specs.Calls.{Causes};
 ghost use Rattle.pages.specs.Counting as counting;
 ghost use Rattle.tree_page.specs.Node.{Local, Rows, IsNode};
-ghost use Rattle.tree_table.specs.Runs.{AppendsRow, ChangesBelow, ChangesLeaf, Exchanges, ExchangesLeaf, FindsPlace, FindsRun, FreesRun, IsFirst, room_for, WritesRow, WritesRows};
+ghost use Rattle.tree_table.specs.Runs.{AppendsRow, ChangesBelow, ChangesLeaf, Exchanges, ExchangesLeaf, FindsPlace, FindsRun, FreesRun, IsFirst, IsRemoval, TakesRow, room_for, WritesRow, WritesRows};
 ghost use Rattle.tree_table.specs.Stepping.{HasRowid};
 
 use crate::changing::RowChange;
@@ -21,6 +21,7 @@ use std::alloc::Global;
 use tree_overflow::write_payload;
 use tree_pack::{Packed, row_cell, splice};
 use tree_page::TreePage;
+use tree_store::take_off;
 
 /// How much room the row's new cell takes at most on a page of this size.
 fn room_for(change: &RowChange, size: usize) -> usize
@@ -309,6 +310,42 @@ fn changed_leaf<P: WritePages>(
     Ok((count, packed))
 }
 
+/// Whether there is one change alone, and it takes its row out.
+fn is_removal(changes: &[RowChange]) -> bool
+    ensures { IsTrue result → IsRemoval changes.now }
+{
+    match changes {
+        [change] => change.payload.is_none(),
+        _ => false,
+    }
+}
+
+/// Takes the row at a place off its leaf, without moving any other, where nothing but this is to be changed and the row lies whole on the leaf.
+/// Answers whether it did; if not, nothing changes. (What `load` and `take_off` refuse.)
+fn taken_off<P: WritePages>(
+    alloc: Global,
+    pages: &mut P,
+    number: u32,
+    place: usize,
+    changes: &[RowChange],
+) -> R<bool>
+    ensures taken { IsTrue (P.Pages.tells (P.Pages.below pages.old))
+        → TakesRow (P.Pages.map pages.old) (P.Pages.map pages.new)
+        (P.Pages.limits (P.Pages.below pages.old)).page number place changes.now result }
+    ensures kept { P.Pages.below pages.new ≡ P.Pages.below pages.old }
+    ensures causes { Causes result (P.Pages.failures pages.old) (P.Pages.failures pages.new) ⊥ }
+{
+    if !is_removal(changes) {
+        return Ok(false);
+    }
+    pages.load(number)?;
+    let most = pages.page_size().saturating_sub(35);
+    if !are_short(pages.loaded(), number, &[place], most as u64) {
+        return Ok(false);
+    }
+    take_off(alloc, pages, number, place)
+}
+
 /// What becomes of a page in whose tree the rows of a run are changed, the first of which has this rowid, where as many more pages as `ways`
 /// may stand on a way below it; and how many changes were made. All pages below it are stored then. (`Damaged(Depth, number)` if a way is
 /// longer.)
@@ -331,6 +368,9 @@ pub(crate) fn changed_below<P: WritePages>(
 {
     let (place, child) = match step_from(pages, number, rowid)? {
         Step::Found(place) => {
+            if taken_off(alloc, pages, number, place, changes)? {
+                return Ok((1, Change::Same));
+            }
             let (count, packed) = changed_leaf(alloc, pages, number, place, changes)?;
             return Ok((count, Change::Spread(packed, ways == 0)));
         }

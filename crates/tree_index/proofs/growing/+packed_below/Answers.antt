@@ -1,5 +1,6 @@
-use Rattle.std.proofs.Common.{◌≡◌, ◌-◌, ◌∙◌, ℕ, suc, IsTrue, Ok, Err, sym, subst, arith}
+use Rattle.std.proofs.Common.{◌≡◌, ◌-◌, ◌∙◌, ℕ, suc, IsTrue, Option, None, Some, Ok, Err, sym, subst, arith}
 use Rattle.pages.specs.Map.{PageMap}
+use Rattle.tree_pack.specs.declared.spreading.Packed.{Packed}
 use Rattle.tree_index.specs.Growing.{IsUnder, IsChanged, Changes, PlansLeaf, StepsFrom, Widens}
 use Rattle.tree_index.specs.declared.growing.Change.{Change}
 use Rattle.tree_index.specs.declared.growing.Change.TheVariants.{There, Same}
@@ -44,10 +45,26 @@ returns-in_err-packed-in-Here-clause-changes g n c = λ told y depth t free unde
     let payload = c.args.new.payload.now in
     let stays = c.in_ok-step_from.ensures.stays in
     let steps = subst (λ (s : Step). StepsFrom base size c.args.number columns x (Ok s)) c.in-Here.is (c.in_ok-step_from.ensures.found told) in
-    let new = gs.map c.packed_leaf.new.pages in
+    let new = gs.map c.leaf_with.new.pages in
     let plans = since gs.below gs.tells gs.limits gs.map (λ (m : PageMap) (k : ℕ). PlansLeaf m new k c.args.number c.in-Here.place payload (Err c.in_err-packed-in-Here.field-0.0)) old c.step_from.new.pages stays.kept stays.same c.in_err-packed-in-Here.ensures.planned told in
     full_err (IsChanged base new size c.args.number c.args.ways columns x y depth t free) c.from_residual-in_err-packed-in-Here.result c.in_err-packed-in-Here.field-0.0 c.from_residual-in_err-packed-in-Here.ensures.1
     (step_here base size c.args.number c.args.ways columns x new c.in-Here.place y payload depth t free under record_is steps (Err c.in_err-packed-in-Here.field-0.0) plans))
+
+pub returns-in_default-clause-changes : goal.returns-in_default-clause-changes
+returns-in_default-clause-changes g n c = λ told y depth t free under record_is.
+    (let gs = g.P.Pages in
+    let old = c.args.pages.now in
+    let base = gs.map old in
+    let size = (gs.limits (gs.below old)).page in
+    let columns = c.args.new.key.columns.now in
+    let x = c.args.new.key.values.now in
+    let payload = c.args.new.payload.now in
+    let stays = c.in_ok-step_from.ensures.stays in
+    let steps = subst (λ (s : Step). StepsFrom base size c.args.number columns x (Ok s)) c.in-Here.is (c.in_ok-step_from.ensures.found told) in
+    let new = gs.map c.leaf_with.new.pages in
+    let plans = since gs.below gs.tells gs.limits gs.map (λ (m : PageMap) (k : ℕ). PlansLeaf m new k c.args.number c.in-Here.place payload (Ok c.in_ok-packed-in-Here.field-0)) old c.step_from.new.pages stays.kept stays.same c.in_ok-packed-in-Here.ensures.planned told in
+    let now = subst (λ (answer : Option Packed). PlansLeaf base new size c.args.number c.in-Here.place payload (Ok answer)) c.in_default.is plans in
+    step_here base size c.args.number c.args.ways columns x new c.in-Here.place y payload depth t free under record_is steps (Ok None) now)
 
 pub returns-in-Here-clause-changes : goal.returns-in-Here-clause-changes
 returns-in-Here-clause-changes g n c = λ told y depth t free under record_is.
@@ -60,9 +77,10 @@ returns-in-Here-clause-changes g n c = λ told y depth t free under record_is.
     let payload = c.args.new.payload.now in
     let stays = c.in_ok-step_from.ensures.stays in
     let steps = subst (λ (s : Step). StepsFrom base size c.args.number columns x (Ok s)) c.in-Here.is (c.in_ok-step_from.ensures.found told) in
-    let new = gs.map c.packed_leaf.new.pages in
-    let plans = since gs.below gs.tells gs.limits gs.map (λ (m : PageMap) (k : ℕ). PlansLeaf m new k c.args.number c.in-Here.place payload (Ok c.in_ok-packed-in-Here.packed)) old c.step_from.new.pages stays.kept stays.same c.in_ok-packed-in-Here.ensures.planned told in
-    step_here base size c.args.number c.args.ways columns x new c.in-Here.place y payload depth t free under record_is steps (Ok c.in_ok-packed-in-Here.packed) plans)
+    let new = gs.map c.leaf_with.new.pages in
+    let plans = since gs.below gs.tells gs.limits gs.map (λ (m : PageMap) (k : ℕ). PlansLeaf m new k c.args.number c.in-Here.place payload (Ok c.in_ok-packed-in-Here.field-0)) old c.step_from.new.pages stays.kept stays.same c.in_ok-packed-in-Here.ensures.planned told in
+    let now = subst (λ (answer : Option Packed). PlansLeaf base new size c.args.number c.in-Here.place payload (Ok answer)) c.in-Some.is plans in
+    step_here base size c.args.number c.args.ways columns x new c.in-Here.place y payload depth t free under record_is steps (Ok (Some c.in-Some.packed)) now)
 
 pub returns-then-ways-eq0-clause-changes : goal.returns-then-ways-eq0-clause-changes
 returns-then-ways-eq0-clause-changes g n c = λ told y depth t free under record_is.

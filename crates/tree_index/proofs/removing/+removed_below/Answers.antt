@@ -20,21 +20,6 @@ returns-in_err-place-clause-lessens g n c = λ told t free under long.
     full_err (IsLessened old (gs.map c.step_from.new.pages) size c.args.number columns x c.args.depth t free) c.from_residual.result c.in_err-place.field-0.0 c.from_residual.ensures.1
     (step_refused old size c.args.number c.args.depth columns x c.args.depth t free under c.in_err-place.field-0.0 (c.in_err-place.ensures.found told)))
 
-pub returns-in_err-packed-in-Found-clause-lessens : goal.returns-in_err-packed-in-Found-clause-lessens
-returns-in_err-packed-in-Found-clause-lessens g n c = λ told t free under long.
-    (let gs = g.P.Pages in
-    let old = gs.map c.args.pages.now in
-    let size = (gs.limits (gs.below c.args.pages.now)).page in
-    let columns = c.args.key.columns.now in
-    let x = c.args.key.values.now in
-    let stays = c.in_ok-place.ensures.stays in
-    let new = gs.map c.taken_out.new.pages in
-    let steps = subst (λ (s : Step). StepsFrom old size c.args.number columns x (Ok s)) c.in-Found.is (c.in_ok-place.ensures.found told) in
-    let takes = since gs.below gs.tells gs.limits gs.map (λ (m : PageMap) (k : ℕ). TakesAt m new k c.args.number c.in-Found.place c.args.depth (Err c.in_err-packed-in-Found.field-0.0)) c.args.pages.now c.step_from.new.pages stays.kept stays.same
-    c.in_err-packed-in-Found.ensures.taken told in
-    full_err (IsLessened old new size c.args.number columns x c.args.depth t free) c.from_residual-in_err-packed-in-Found.result c.in_err-packed-in-Found.field-0.0 c.from_residual-in_err-packed-in-Found.ensures.1
-    (found_taken columns x long old size c.args.number new c.in-Found.place c.args.depth t free under steps (Err c.in_err-packed-in-Found.field-0.0) takes))
-
 pub returns-in-Found-clause-lessens : goal.returns-in-Found-clause-lessens
 returns-in-Found-clause-lessens g n c = λ told t free under long.
     (let gs = g.P.Pages in
@@ -45,9 +30,9 @@ returns-in-Found-clause-lessens g n c = λ told t free under long.
     let stays = c.in_ok-place.ensures.stays in
     let new = gs.map c.taken_out.new.pages in
     let steps = subst (λ (s : Step). StepsFrom old size c.args.number columns x (Ok s)) c.in-Found.is (c.in_ok-place.ensures.found told) in
-    let takes = since gs.below gs.tells gs.limits gs.map (λ (m : PageMap) (k : ℕ). TakesAt m new k c.args.number c.in-Found.place c.args.depth (Ok c.in_ok-packed-in-Found.packed)) c.args.pages.now c.step_from.new.pages stays.kept stays.same
-    c.in_ok-packed-in-Found.ensures.taken told in
-    found_taken columns x long old size c.args.number new c.in-Found.place c.args.depth t free under steps (Ok c.in_ok-packed-in-Found.packed) takes)
+    let takes = since gs.below gs.tells gs.limits gs.map (λ (m : PageMap) (k : ℕ). TakesAt m new k c.args.number c.in-Found.place c.args.depth c.taken_out.result) c.args.pages.now c.step_from.new.pages stays.kept stays.same
+    c.taken_out.ensures.taken told in
+    found_taken columns x long old size c.args.number new c.in-Found.place c.args.depth t free under steps c.taken_out.result takes)
 
 pub returns-in-Here-clause-lessens : goal.returns-in-Here-clause-lessens
 returns-in-Here-clause-lessens g n c = λ told t free under long.

@@ -1,4 +1,4 @@
-use Rattle.std.proofs.Common.{◌≡◌, ◌-◌, ◌∙◌, ℕ, ℤ, Bool, false, true, w64, to_z, of_z, IsTrue, Ok, Err, length, List, [], ◌∷◌, sym, ap, subst}
+use Rattle.std.proofs.Common.{◌≡◌, ◌-◌, ◌∙◌, ℕ, ℤ, Bool, w64, to_z, of_z, IsTrue, Ok, Err, length, List, [], ◌∷◌, sym, ap, subst}
 use Rattle.std.specs.Prelude.{Result}
 use Rattle.std.proofs.lemmas.Int.{to_z-of_z}
 use Rattle.sqlval.specs.declared.fault.Fault.{Fault}
@@ -11,7 +11,7 @@ use Rattle.tree_page.specs.Reading.{below}
 use Rattle.tree_overflow.specs.Calls.{IsWritten}
 use Rattle.tree_pack.specs.Splicing.{Splices}
 use Rattle.tree_store.specs.Storing.{PlacesOn}
-use Rattle.tree_table.specs.Growing.{IsPutOrPlanned, IsPlanned, below_of}
+use Rattle.tree_table.specs.Growing.{IsPutOrPlanned, below_of}
 use Rattle.tree_table.specs.Rows.{with_row}
 use Rattle.tree_table.specs.Tree.{rows_of}
 use Rattle.tree_table.proofs.Exits.{full_err, outside_full, planned_since}

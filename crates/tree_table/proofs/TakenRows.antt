@@ -1,0 +1,215 @@
+-- A row is taken off its leaf, where it lies.
+use Rattle.std.proofs.Common.{◌≡◌, ◌≤◌, ◌<◌, ◌+◌, ◌-◌, ℕ, zero, suc, ℤ, ◌≤ℤ◌, Bool, true, false, List, [], ◌∷◌, ◌++◌, length, take, drop, slice_index_or, Option, None, refl, sym, ap, subst, ◌∙◌, inl, arith}
+use Rattle.std.specs.Global.{Vec}
+use Rattle.std.specs.Prelude.{All, Result, Ok, Err, MatchResult}
+use Rattle.sqlval.specs.declared.fault.Fault.{Fault}
+use Rattle.sqlval.specs.Faults.{IsOutside}
+use Rattle.tree_leaf.specs.Leaf.{Entry}
+use Rattle.pages.specs.Calls.{IsOutsideOrFull}
+use Rattle.pages.specs.Counting.{occurs, start_of}
+use Rattle.pages.specs.Laws.{IsJoined}
+use Rattle.pages.specs.Map.{PageMap, page_at, Has, IsThere}
+use Rattle.pages.proofs.Moving.{occurs_append}
+use Rattle.freelist.proofs.Lists.{occurs_self}
+use Rattle.tree_page.specs.Cells.{Pairwise}
+use Rattle.tree_page.specs.Node.{Local, Rows, IsNode, IsRowCell, Say}
+use Rattle.tree_page.specs.Payload.{table_most}
+use Rattle.tree_page.proofs.HeaderLemmas.{same_length}
+use Rattle.tree_pack.specs.Splicing.{spliced}
+use Rattle.tree_pack.proofs.Splices.{pairwise_spliced}
+use Rattle.tree_store.specs.Saying.{Says}
+use Rattle.tree_store.specs.Storing.{IsPlacedOn, TakesOff}
+use Rattle.tree_store.proofs.PutPages.{put_there}
+use Rattle.tree_table.specs.Growing.{IsEdited, IsPut, IsThereAt, IsUnder}
+use Rattle.tree_table.specs.Rows.{with_change, with_changes, without_row, IsLocal}
+use Rattle.tree_table.specs.Runs.{IsFirst, IsNoRun, IsRemoval, IsTakenOff, TakesRow, none_held}
+use Rattle.tree_table.specs.Stepping.{StepsFrom}
+use Rattle.tree_table.specs.Tree.{Held, IsHeldAs, Leaf, Rises, Tree, pages_of, rows_of}
+use Rattle.tree_table.specs.declared.changing.RowChange.{RowChange}
+use Rattle.tree_table.specs.declared.descending.Step.TheVariants.{Found}
+use Rattle.tree_table.specs.declared.growing.Change.TheVariants.{Same}
+use Rattle.tree_table.proofs.Descents.{leaf_at, not_inside, step_found}
+use Rattle.tree_table.proofs.Few.{large_size}
+use Rattle.tree_table.proofs.Givings.{chain_of}
+use Rattle.tree_table.proofs.Leaves.{chains_of}
+use Rattle.tree_table.proofs.Locals.{changes_local, same_le}
+use Rattle.tree_table.proofs.Orders.{rows_in}
+use Rattle.tree_table.proofs.Passing.{beside_used, others_seen}
+use Rattle.tree_table.proofs.RunFrees.{item, none_go_on}
+use Rattle.tree_table.proofs.RunLists.{kept_pages}
+use Rattle.tree_table.proofs.RunRows.{IsRunOf, run_rises, rises_exchanged, rows_exchanged}
+use Rattle.tree_table.proofs.Staying.{rows_stay}
+
+-- ---- the list without the item at a place
+
+cut_plain : {A : Type 0} (place : ℕ) (xs : List A) → take (place - 0) xs ++ drop (suc place) xs ≡ spliced place 1 [] xs
+cut_plain {A} place xs =
+    let plain : place - 0 ≡ place = omega arith in
+    let next : suc place ≡ place + 1 = omega arith in
+    ap (λ (n : ℕ). take n xs ++ drop (suc place) xs) plain ∙ ap (λ (n : ℕ). take place xs ++ drop n xs) next
+
+module _ (old : PageMap) (size number ways : ℕ) (rowid low : ℤ) (t : Leaf) (high : ℤ) (free : List ℕ) (under : IsUnder old size number ways rowid zero low t high free)
+    (place : ℕ) (lt : place < length t.rows) (same : (d : Held) → (slice_index_or t.rows place d).row.rowid ≡ rowid) where
+  abbrev said : List (ℤ × Local)
+  said = (under.lies).said
+
+  abbrev new_said : List (ℤ × Local)
+  new_said = spliced place 1 [] said
+
+  abbrev others : List Held
+  others = spliced place 1 [] t.rows
+
+  -- the removal, as a run of one
+  abbrev removed : RowChange
+  removed = record { rowid = rowid; payload = None }
+
+  run : IsRunOf 0 t.rows (removed ∷ []) (place ∷ [])
+  run = (omega arith, lt, same none_held, tt)
+
+  says : Says old number (Rows said)
+  says = subst (λ (n : ℕ). Says old n (Rows said)) under.top_is (under.lies).says
+
+  pub taken_there : IsThere old size number
+  taken_there = record { has = says.has; whole = (under.free_are).whole number says.has }
+
+  long : length (page_at old number) ≡ size
+  long = taken_there.whole
+
+  node : IsNode (page_at old number) (start_of number) (Rows said)
+  node = says.node_is
+
+  within : place < length node.cells
+  within =
+      let count = same_length (IsRowCell (length (page_at old number))) node.cells said node.say ∙ same_length (IsHeldAs old size) said t.rows (under.lies).rows in
+      omega (arith, lt, count)
+
+  held_rows : Pairwise (IsHeldAs old size) new_said others
+  held_rows = pairwise_spliced (IsHeldAs old size) place 1 said [] t.rows [] (under.lies).rows tt
+
+  say : Say size (spliced place 1 [] node.cells) (Rows new_said)
+  say = subst (λ (n : ℕ). Pairwise (IsRowCell n) (spliced place 1 [] node.cells) new_said) long
+      (pairwise_spliced (IsRowCell (length (page_at old number))) place 1 node.cells [] said [] node.say tt)
+
+  -- ---- the rows that are left
+
+  sorted : Rises low others high
+  sorted = subst (λ (xs : List Held). Rises low xs high) (cut_plain place t.rows)
+      (rises_exchanged t.rows high 0 (removed ∷ []) (place ∷ []) ([] ∷ []) low refl under.sorted run refl)
+
+  rows_are : rows_in others ≡ without_row rowid (rows_of zero t)
+  rows_are = ap rows_in (sym (cut_plain place t.rows)) ∙ rows_exchanged t.rows high 0 (removed ∷ []) (place ∷ []) ([] ∷ []) low refl under.sorted run refl
+
+  -- ---- their pages, where the row lies whole on the leaf
+
+  abbrev IsShort : Type 0
+  IsShort = All (λ (n : ℕ). n < length said → (slice_index_or said n item).1.size ≤ table_most size) (place ∷ [])
+
+  -- what the page's bytes tell of the row
+  pub short_row : (bytes : List ℕ) (most : ℕ) → bytes ≡ page_at old number → most ≡ table_most size
+      → ((said : List (ℤ × Local)) (d : ℤ × Local) → IsNode bytes (start_of number) (Rows said) → All (λ n. n < length said → (slice_index_or said n d).1.size ≤ most) (place ∷ []))
+      → IsShort
+  short_row bytes most read is short =
+      subst (λ (m : ℕ). All (λ n. n < length said → (slice_index_or said n item).1.size ≤ m) (place ∷ [])) is
+      (short said item (subst (λ (them : List ℕ). IsNode them (start_of number) (Rows said)) (sym read) node))
+
+  module _ (short : IsShort) where
+    chains_same : (n : ℕ) → occurs n (chains_of others) ≡ occurs n (chains_of t.rows)
+    chains_same n =
+        let rise = run_rises 0 t.rows (removed ∷ []) (place ∷ []) run in
+        let whole = kept_pages chain_of n 0 (place ∷ []) t.rows none_held rise in
+        let none = ap (occurs n) (none_go_on old size number ways rowid low t high free under (place ∷ []) rise 0 (place ∷ []) rise short) in
+        let e = ap (λ (xs : List Held). occurs n (chains_of xs)) (cut_plain place t.rows) in
+        omega (arith, whole, none, e)
+
+    was : IsJoined (number ∷ []) (chains_of others) (pages_of zero t)
+    was n =
+        let top = ap (λ (m : ℕ). occurs n (m ∷ chains_of t.rows)) under.top_is in
+        let both = occurs_append n (number ∷ []) (chains_of t.rows) in
+        let e = chains_same n in
+        omega (arith, top, both, e)
+
+    now : IsJoined (number ∷ []) (chains_of others) (t.page ∷ chains_of others)
+    now n =
+        let top = ap (λ (m : ℕ). occurs n (m ∷ chains_of others)) under.top_is in
+        let both = occurs_append n (number ∷ []) (chains_of others) in
+        omega (arith, top, both)
+
+    unfree : occurs number free ≡ 0
+    unfree = (let once = under.apart number in let all = was number in let self = occurs_self number in omega (arith, once, all, self))
+
+    unused : (n : ℕ) → 1 ≤ occurs n (chains_of others) → occurs n (number ∷ []) + occurs n free ≡ 0
+    unused n some = (let once = under.apart n in let all = was n in omega (arith, once, all, some))
+
+    -- the leaf's page has the others now
+    taken_put : (new : PageMap) → IsPlacedOn old new size free number (spliced place 1 [] node.cells) (Rows new_said) true
+        → IsPut old new size number zero low high (without_row rowid (rows_of zero t)) (pages_of zero t) free
+    taken_put new (image, placed, rewritten) =
+        let moves = rewritten.moves in
+        let has : Has new number = record { first = says.has.first; last = (let last = says.has.last in let longer = moves.longer in omega (arith, last, longer)) } in
+        let bytes : page_at new number ≡ image = ap (λ (m : PageMap). page_at m number) rewritten.is ∙ put_there old number image says.has in
+        let says_new : Says new number (Rows new_said) = record { has = has; node_is = subst (λ (l : List ℕ). IsNode l (start_of number) (Rows new_said)) (sym bytes) placed.is } in
+        record {
+          tree = record { page = t.page; rows = others };
+          top_is = under.top_is;
+          lies = record {
+            said = new_said;
+            says = subst (λ (n : ℕ). Says new n (Rows new_said)) (sym under.top_is) says_new;
+            rows = rows_stay old new moves.longer size new_said others (others_seen old new (number ∷ []) free (number ∷ []) free (chains_of others) moves unused) held_rows;
+          };
+          sorted = sorted;
+          rows_are = rows_are;
+          now_free = free;
+          has = rewritten.has;
+          moves = beside_used old new (number ∷ []) free (number ∷ []) free (chains_of others) (pages_of zero t) (t.page ∷ chains_of others) moves was now;
+          header = rewritten.header;
+        }
+
+    pub row_taken : (changes : List RowChange) → IsRemoval changes → (new : PageMap) (result : Result Bool Fault) → TakesOff old new size number place result
+        → MatchResult result (IsTakenOff old new size number rowid changes low t high free) IsOutside
+    row_taken changes alone new result takes =
+        by result (takes free under.free_are says.has unfree (Rows said) (Rows new_said) node (large_size size under.sized).0 (large_size size under.sized).1 within refl refl say)
+      where
+        by : (result : Result Bool Fault)
+            → MatchResult result (λ taken. IsPlacedOn old new size free number (spliced place 1 [] node.cells) (Rows new_said) taken × (taken ≡ true → 2 ≤ length node.cells)) IsOutside
+            → MatchResult result (IsTakenOff old new size number rowid changes low t high free) IsOutside
+        by (Ok true) is = (alone, taken_put new is.0)
+        by (Ok false) is = is.0
+        by (Err fault) outside = outside
+
+-- ---- the tree
+
+removed_is : (rowid : ℤ) (changes : List RowChange) → IsRemoval changes → IsFirst rowid changes → (rows : List Entry) → with_changes (take 1 changes) rows ≡ without_row rowid rows
+removed_is rowid [] alone first rows = absurd alone
+removed_is rowid (change ∷ []) alone first rows =
+    ap (λ (payload : Option (Vec ℕ)). with_change (record { rowid = change.rowid; payload = payload }) rows) alone ∙ ap (λ (z : ℤ). without_row z rows) first
+removed_is rowid (change ∷ next ∷ changes) alone first rows = absurd alone
+
+removed_local : (rowid high : ℤ) (changes : List RowChange) → IsRemoval changes → IsFirst rowid changes → rowid ≤ℤ high → IsLocal rowid high (with_changes (take 1 changes))
+removed_local rowid high [] alone first upto = absurd alone
+removed_local rowid high (change ∷ []) alone first upto =
+    changes_local rowid high (change ∷ []) (subst (λ (z : ℤ). (rowid ≤ℤ z) × (z ≤ℤ high)) (sym first) (same_le rowid, upto), tt)
+removed_local rowid high (change ∷ next ∷ changes) alone first upto = absurd alone
+
+-- the row was taken off its leaf, below which there is nothing; or nothing has changed
+abbrev pub IsStepTaken : PageMap → PageMap → ℕ → ℕ → ℕ → ℤ → List RowChange → (depth : ℕ) → ℤ → Tree depth → ℤ → List ℕ → Bool → Type 0
+IsStepTaken old new size number ways rowid changes depth low t high free true = IsEdited (IsNoRun 1) IsThereAt old new size number ways rowid (with_changes (take 1 changes)) depth low t high free Same
+IsStepTaken old new size number ways rowid changes depth low t high free false = new ≡ old
+
+pub step_taken : (old new : PageMap) (size number ways place : ℕ) (rowid : ℤ) (depth : ℕ) (low : ℤ) (t : Tree depth) (high : ℤ) (free : List ℕ) → IsUnder old size number ways rowid depth low t high free
+    → StepsFrom old size number rowid (Ok (Found place)) → (changes : List RowChange) → IsFirst rowid changes → (result : Result Bool Fault) → TakesRow old new size number place changes result
+    → MatchResult result (IsStepTaken old new size number ways rowid changes depth low t high free) IsOutsideOrFull
+step_taken old new size number ways place rowid zero low t high free under steps changes first result takes =
+    let at = leaf_at old size number ways rowid low t high free under place steps in
+    by result (takes ways rowid low t high free under at.0 at.1)
+  where
+    by : (result : Result Bool Fault) → MatchResult result (IsTakenOff old new size number rowid changes low t high free) IsOutside
+        → MatchResult result (IsStepTaken old new size number ways rowid changes zero low t high free) IsOutsideOrFull
+    by (Ok true) is = (
+      step_found old size number ways place rowid zero low t high free under steps,
+      removed_local rowid high changes is.0 first under.upto,
+      subst (λ (rows : List Entry). IsPut old new size number zero low high rows (pages_of zero t) free) (sym (removed_is rowid changes is.0 first (rows_of zero t))) is.1,
+    )
+    by (Ok false) is = is
+    by (Err fault) outside = inl outside
+step_taken old new size number ways place rowid (suc depth) low t high free under steps changes first result takes =
+    absurd (not_inside old size number ways place rowid depth low t high free under steps)
