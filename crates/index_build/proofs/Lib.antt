@@ -1,6 +1,9 @@
 pub mod Ranks
 pub mod RowEntries
 pub mod Comparing
+pub mod RowPlaces
+pub mod RowSearches
+pub mod Theirs
 pub mod Checked
 pub mod KeysApart
 pub mod Makings

@@ -1,7 +1,6 @@
 -- What the calls do.
 use Rattle.std.specs.Prelude.{◌≡◌, ◌⊎◌, ℕ, Bool, true, false, IsTrue, List, map, ⊤, Result, MatchResult}
 use Rattle.sqlval.specs.Faults.{IsOutside}
-use Rattle.sqlval.specs.declared.collation.Collation.{Collation}
 use Rattle.sqlval.specs.declared.fault.Damage.TheVariants as Damage
 use Rattle.sqlval.specs.declared.fault.Fault.{Fault}
 use Rattle.sqlval.specs.declared.fault.Fault.TheVariants.{Damaged}
@@ -46,11 +45,6 @@ pub record Tells (answer : Bool) (A : Type 0) : Type 0 where
 abbrev pub AreThose : ℕ → List Entry → List Entry → Result ⊤ Fault → Type 0
 AreThose root there should result = MatchResult result (λ done. there ≡ should)
     (λ fault. IsOutside fault ⊎ ((fault ≡ Damaged Damage.Index root) × (there ≡ should → ⊥)))
-
--- the entries of the index's tree under the root were compared with these
-abbrev pub ComparesEntries : PageMap → ℕ → ℕ → List Collation → List Entry → Result ⊤ Fault → Type 0
-ComparesEntries pages size root columns should result = (there : List Entry) (used : List ℕ) → AreWhole size pages
-    → IsIndexTree pages size root columns there used → AreThose root there should result
 
 -- the entries of the index's tree under the root were compared with those of the table's rows
 abbrev pub ChecksEntries : PageMap → ℕ → ℕ → BoundSource → List IndexColumn → Result ⊤ Fault → Type 0

@@ -29,7 +29,7 @@ pub(crate) fn value_in(values: &[Value], place: usize) -> Field<'_>
 }
 
 /// The value of a row's column, NULL past the last.
-fn column_of(row: &SourceRow, place: usize) -> Field<'_>
+pub(crate) fn column_of(row: &SourceRow, place: usize) -> Field<'_>
     ensures { value_of result ≡ slice_index_or row.now.values place Null }
 {
     row.column(place)

@@ -16,4 +16,5 @@ pub mod Rooms
 pub mod PlacingLemmas
 pub mod ReplacingLemmas
 pub mod RemovingLemmas
+pub mod FreeingLemmas
 pub mod RewritingLemmas

@@ -472,10 +472,9 @@ is_placed_over page start old new is middle end low place count at cell le middl
 
 -- ---- the room
 
--- the least of the pointers that are read isn't after any cell
-pub lies_behind : (page : List ℕ) (start : ℕ) (old : Node) (is : IsNode page start old) (first end least : ℕ) → first ≡ start + 8 + length (right_of old) → end ≡ first + 2 * length is.cells
-    → least ≡ least_in (length page) (take (end - first) (drop first page)) → AllByRecursion (λ span. least ≤ span.from) is.page_is.spans
-lies_behind page start old is first end least first_is end_is e =
+-- the bytes between where the pointers begin and where they end are the pointers
+pub pointers_between : (page : List ℕ) (start : ℕ) (old : Node) (is : IsNode page start old) (first end : ℕ) → first ≡ start + 8 + length (right_of old) → end ≡ first + 2 * length is.cells → take (end - first) (drop first page) ≡ flat_map pointer is.page_is.spans
+pointers_between page start old is first end first_is end_is =
     let p = is.page_is in
     let header = page_header (code_of old) p.freeblock (length is.cells) p.content p.fragments in
     let front = p.before ++ (header ++ right_of old) in
@@ -484,8 +483,14 @@ lies_behind page start old is first end least first_is end_is e =
     let size : length front ≡ first = omega (arith, length-append p.before (header ++ right_of old), length-append header (right_of old), eight, p.start_is, first_is) in
     let count : length pointers ≡ end - first = omega (arith, length-pointers p.spans, same_length (IsAt page) p.spans is.cells p.cells_are, end_is) in
     let grouped : page ≡ front ++ (pointers ++ p.rest) = p.parts ∙ up_to_pointers p.before header (right_of old) pointers p.rest in
-    let there : take (end - first) (drop first page) ≡ pointers = ap (take (end - first)) (ap (drop first) grouped ∙ drop_at front (pointers ++ p.rest) first size) ∙ take_at pointers p.rest (end - first) count in
-    all_behind page least (length page) p.spans is.cells (e ∙ ap (least_in (length page)) there) p.cells_are
+    ap (take (end - first)) (ap (drop first) grouped ∙ drop_at front (pointers ++ p.rest) first size) ∙ take_at pointers p.rest (end - first) count
+
+-- the least of the pointers that are read isn't after any cell
+pub lies_behind : (page : List ℕ) (start : ℕ) (old : Node) (is : IsNode page start old) (first end least : ℕ) → first ≡ start + 8 + length (right_of old) → end ≡ first + 2 * length is.cells
+    → least ≡ least_in (length page) (take (end - first) (drop first page)) → AllByRecursion (λ span. least ≤ span.from) is.page_is.spans
+lies_behind page start old is first end least first_is end_is e =
+    let p = is.page_is in
+    all_behind page least (length page) p.spans is.cells (e ∙ ap (least_in (length page)) (pointers_between page start old is first end first_is end_is)) p.cells_are
 
 -- a page has as many cells as are counted
 pub count_on : (at : Place) (page : List ℕ) (start count : ℕ) (old : Node) (is : IsNode page start old) → at ≡ record { bytes = page; start = start } → ((node : Node) → IsNode at.bytes at.start node → count ≡ count_of node)

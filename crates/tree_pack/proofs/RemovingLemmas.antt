@@ -12,12 +12,15 @@ use Rattle.std.specs.Prelude.{Option, Some, None, Result, Ok, Err, IfOk, IfSome}
 use Rattle.sqlval.specs.declared.fault.Fault.{Fault}
 use Rattle.tree_pack.specs.Placing.{IsPlaced, Places}
 use Rattle.tree_pack.specs.Replacing.{written_over, no_span, IsCellAt, IsPlaceOn}
-use Rattle.tree_pack.specs.Removing.{with_block, without_pointer}
+use Rattle.tree_pack.specs.Freeing.{AreClear, IsFreed, IsOwn}
+use Rattle.tree_pack.specs.Removing.{IsHeadOn, with_head, without_pointer}
 use Rattle.tree_pack.specs.Splicing.{spliced, IsUsual}
-use Rattle.tree_pack.specs.declared.removing.Free.{Free}
+use Rattle.tree_pack.specs.declared.freeing.Free.{Free}
+use Rattle.tree_pack.specs.declared.freeing.Freed.{Freed}
+use Rattle.tree_pack.specs.declared.freeing.FreeblockHead.{FreeblockHead}
 use Rattle.tree_pack.specs.declared.replacing.CellPlace.{CellPlace}
 use Rattle.tree_pack.proofs.PlacingLemmas.{halves, EndsSo, cell_stays}
-use Rattle.tree_pack.proofs.ReplacingLemmas.{IsClear, clear_stays, Others, Beside, later_apart, clear_at, pairs_stay, front_stays, regroup}
+use Rattle.tree_pack.proofs.ReplacingLemmas.{IsClear, clear_stays, Others, Beside, Replaced, later_apart, clear_at, pairs_stay, front_stays, regroup}
 use Rattle.tree_pack.proofs.Splices.{pairwise_spliced}
 
 -- ---- lists with one item less
@@ -264,7 +267,7 @@ page_without kind page start right cells is pointer_at last place count free lt 
 
 -- what is written behind the front, over bytes of no cell, leaves the page's cells
 page_cleared : (kind : ℕ) (page : List ℕ) (start : ℕ) (right : List ℕ) (cells : List (List ℕ)) (is : IsTreePage kind page start right cells) (at : ℕ) (bytes : List ℕ) → at + length bytes ≤ length page → start + 8 + length right + 2 * length cells ≤ at
-    → AllByRecursion (IsClear at (length bytes)) is.spans → IsTreePage kind (written_over at bytes page) start right cells × (length (written_over at bytes page) ≡ length page) × (take start (written_over at bytes page) ≡ take start page)
+    → AllByRecursion (IsClear at (length bytes)) is.spans → Replaced kind page start right cells is cells (written_over at bytes page)
 page_cleared kind page start right cells is at bytes within after clear =
     let spans = is.spans in
     let count : length spans ≡ length cells = same_length (IsAt page) spans cells is.cells_are in
@@ -276,8 +279,9 @@ page_cleared kind page start right cells is at bytes within after clear =
     omega (arith, length-append is.before (header ++ (right ++ pointers)), length-append header (right ++ pointers), length-append right pointers, eight, is.start_is, length-pointers spans, count) in
     let whole : page ≡ fronts ++ is.rest = is.parts ∙ sym (regroup is.before header right pointers is.rest) in
     let behind = front_stays page fronts is.rest bytes at whole within (inr (omega (arith, front_size, after))) in
-    let parts = behind.parts ∙ regroup is.before header right pointers behind.rest in (
-      record {
+    let parts = behind.parts ∙ regroup is.before header right pointers behind.rest in
+    record {
+      now = record {
         before = is.before;
         freeblock = is.freeblock;
         content = is.content;
@@ -291,10 +295,31 @@ page_cleared kind page start right cells is at bytes within after clear =
         few = is.few;
         cells_are = pairs_stay (IsAt page) (IsAt (written_over at bytes page)) (IsClear at (length bytes)) spans cells (clear_stays page bytes at within) clear is.cells_are;
         apart = is.apart;
-      },
-      behind.long,
-      ap (take start) parts ∙ take_at is.before _ start is.start_is ∙ sym (ap (take start) is.parts ∙ take_at is.before _ start is.start_is),
-    )
+      };
+      spans_stay = refl;
+      long = behind.long;
+      front_same = ap (take start) parts ∙ take_at is.before _ start is.start_is ∙ sym (ap (take start) is.parts ∙ take_at is.before _ start is.start_is);
+    }
+
+-- so does a page with one cell less
+less_cleared : (kind : ℕ) (page : List ℕ) (start : ℕ) (right : List ℕ) (cells : List (List ℕ)) (is : IsTreePage kind page start right cells) (place : ℕ) (mid : List ℕ) → Less kind page start right cells is place mid → (at : ℕ) (bytes : List ℕ)
+    → at + length bytes ≤ length page → start + 8 + length right + 2 * length cells ≤ at → place < length cells → AllByRecursion (IsClear at (length bytes)) (without place is.spans) → Less kind page start right cells is place (written_over at bytes mid)
+less_cleared kind page start right cells is place mid less at bytes within after lt clear =
+    let long = less.long in
+    let fewer_cells = length_without place cells lt in
+    let kept = page_cleared kind mid start right (without place cells) less.now at bytes (omega (arith, long, within)) (omega (arith, after, fewer_cells)) (subst (λ (spans : List Span). AllByRecursion (IsClear at (length bytes)) spans) (sym less.spans_are) clear) in
+    record { now = kept.now; spans_are = kept.spans_stay ∙ less.spans_are; long = kept.long ∙ less.long; front_same = kept.front_same ∙ less.front_same }
+
+-- the first bytes of a freeblock can be written there, over bytes of no cell
+record IsHeadClear (page : List ℕ) (end place : ℕ) (spans : List Span) (head : FreeblockHead) : Type 0 where
+  pub within : head.at + length head.bytes ≤ length page
+  pub after : end ≤ head.at
+  pub clear : AllByRecursion (IsClear head.at (length head.bytes)) (without place spans)
+
+less_head : (kind : ℕ) (page : List ℕ) (start : ℕ) (right : List ℕ) (cells : List (List ℕ)) (is : IsTreePage kind page start right cells) (place : ℕ) (mid : List ℕ) → Less kind page start right cells is place mid → place < length cells → (head : Option FreeblockHead)
+    → IfSome head (IsHeadClear page (start + 8 + length right + 2 * length cells) place is.spans) → Less kind page start right cells is place (with_head head mid)
+less_head kind page start right cells is place mid less lt None none = less
+less_head kind page start right cells is place mid less lt (Some head) can = less_cleared kind page start right cells is place mid less head.at head.bytes can.within can.after lt can.clear
 
 -- ---- the node
 
@@ -324,7 +349,7 @@ is_removed page start old new is place found count free written cell count_is wr
     subst (λ (bytes : List ℕ). IsPlaced page start (without place is.cells) new bytes) (sym written_is)
     (says_so page (without_pointer page start found.pointer found.last count free) start old new (without place is.cells) less.now less.long less.front_same same last say)
 
-pair_there : (P : Span → List ℕ → Type 0) (spans : List Span) (cells : List (List ℕ)) (n : ℕ) → n < length cells → Pairwise P spans cells → P (slice_index_or spans n no_span) (slice_index_or cells n [])
+pub pair_there : (P : Span → List ℕ → Type 0) (spans : List Span) (cells : List (List ℕ)) (n : ℕ) → n < length cells → Pairwise P spans cells → P (slice_index_or spans n no_span) (slice_index_or cells n [])
 pair_there P [] [] n lt all = absurd (omega (arith, lt))
 pair_there P [] (cell ∷ cells) n lt all = absurd all
 pair_there P (span ∷ spans) [] n lt all = absurd all
@@ -346,32 +371,42 @@ others_clear at size one from_is le zero (span ∷ spans) others = by (span ∷ 
     by all (span ∷ spans) beside = (within_clear at size one span from_is le beside.0, by all spans beside.1)
 others_clear at size one from_is le (suc n) (span ∷ spans) others = (within_clear at size one span from_is le others.0, others_clear at size one from_is le n spans others.1)
 
--- and so it does where bytes of the cell that went are written over
-pub is_cleared : (page : List ℕ) (start : ℕ) (old new : Node) (is : IsNode page start old) (place : ℕ) (found : CellPlace) (count : ℕ) (free : Free) (mid bytes written : List ℕ) → IsCellAt page start old is place found → count + 1 ≡ found.count
-    → mid ≡ without_pointer page start found.pointer found.last count free → length bytes ≡ 4 → found.at + 4 ≤ found.end → found.at + length bytes ≤ length mid → written ≡ written_over found.at bytes mid → code_of new ≡ code_of old → right_of new ≡ right_of old
-    → Say (length page) (without place is.cells) new → IsPlaced page start (without place is.cells) new written
-is_cleared page start old new is place found count free mid bytes written cell count_is mid_is four room fits written_is same last say =
+-- the cell's own bytes are no other cell's
+own_clear : (page : List ℕ) (start : ℕ) (old : Node) (is : IsNode page start old) (place : ℕ) (found : CellPlace) → IsCellAt page start old is place found → found.end ≤ length page → (head : FreeblockHead) → IsOwn found head
+    → IsHeadClear page (start + 8 + length (right_of old) + 2 * length is.cells) place (is.page_is).spans head
+own_clear page start old is place found cell within head own =
     let p = is.page_is in
-    let less = subst (λ (m : List ℕ). Less (code_of old) page start (right_of old) is.cells p place m) (sym mid_is) (less_of page start old is place found count free cell count_is) in
     let one = slice_index_or p.spans place no_span in
     let there = cell.there in
     let at : IsAt page one (slice_index_or is.cells place []) = pair_there (IsAt page) p.spans is.cells place there p.cells_are in
-    let from_is : one.from ≡ found.at = cell.offset in
-    let to_is : one.to ≡ found.end = omega (arith, at.to_is, at.from_is, from_is, cell.long) in
+    let at_is = own.at_is in
+    let four = own.four in
+    let room = own.room in
+    let from_is : one.from ≡ head.at = cell.offset ∙ sym at_is in
+    let to_is : one.to ≡ found.end = omega (arith, at.to_is, at.from_is, cell.offset, cell.long) in
     let spans_size : length p.spans ≡ length is.cells = same_length (IsAt page) p.spans is.cells p.cells_are in
     let old_front = front start (length (right_of old)) (length is.cells) in
     let clear = clear_at (old_front ∷ []) p.spans place (omega (arith, there, spans_size)) p.apart in
-    let le : found.at + length bytes ≤ one.to = omega (arith, four, room, to_is) in
-    let spans_clear : AllByRecursion (IsClear found.at (length bytes)) (without place p.spans) = others_all place (IsClear found.at (length bytes)) p.spans (others_clear found.at (length bytes) one from_is le place p.spans clear.others) in
-    let after : start + 8 + length (right_of old) + 2 * length is.cells ≤ found.at = behind_of one old_front found.at (length bytes) from_is le four refl refl clear.first.0 in
-    let fewer_cells : length (without place is.cells) + 1 ≡ length is.cells = length_without place is.cells there in
-    let kept = page_cleared (code_of old) mid start (right_of old) (without place is.cells) less.now found.at bytes fits (omega (arith, after, fewer_cells)) (subst (λ (spans : List Span). AllByRecursion (IsClear found.at (length bytes)) spans) (sym less.spans_are) spans_clear) in
-    subst (λ (b : List ℕ). IsPlaced page start (without place is.cells) new b) (sym written_is)
-    (says_so page (written_over found.at bytes mid) start old new (without place is.cells) kept.0 (kept.1 ∙ less.long) (kept.2 ∙ less.front_same) same last say)
+    let le : head.at + length head.bytes ≤ one.to = omega (arith, four, room, to_is, at_is) in
+    record {
+      within = omega (arith, le, to_is, within);
+      after = behind_of one old_front from_is le four clear.first.0 refl refl;
+      clear = others_all place (IsClear head.at (length head.bytes)) p.spans (others_clear head.at (length head.bytes) one from_is le place p.spans clear.others);
+    }
   where
-    behind_of : (one f : Span) (at size : ℕ) → one.from ≡ at → at + size ≤ one.to → size ≡ 4 → f.from ≡ 0 → f.to ≡ start + 8 + length (right_of old) + 2 * length is.cells → IsApart one f → start + 8 + length (right_of old) + 2 * length is.cells ≤ at
-    behind_of one f at size from_is le four zero_is end_is (inl before) = absurd (omega (arith, before, zero_is, le, four))
-    behind_of one f at size from_is le four zero_is end_is (inr behind) = omega (arith, behind, from_is, end_is)
+    behind_of : (one f : Span) → one.from ≡ head.at → head.at + length head.bytes ≤ one.to → length head.bytes ≡ 4 → IsApart one f → f.from ≡ 0 → f.to ≡ start + 8 + length (right_of old) + 2 * length is.cells → start + 8 + length (right_of old) + 2 * length is.cells ≤ head.at
+    behind_of one f from_is le four (inl before) zero_is end_is = absurd (omega (arith, before, zero_is, le, four))
+    behind_of one f from_is le four (inr behind) zero_is end_is = omega (arith, behind, from_is, end_is)
+
+-- and so it does where bytes of the cell that went are written over
+pub is_cleared : (page : List ℕ) (start : ℕ) (old new : Node) (is : IsNode page start old) (place : ℕ) (found : CellPlace) (count : ℕ) (free : Free) (mid : List ℕ) (head : FreeblockHead) (written : List ℕ) → IsCellAt page start old is place found → count + 1 ≡ found.count
+    → mid ≡ without_pointer page start found.pointer found.last count free → IsOwn found head → found.end ≤ length page → written ≡ written_over head.at head.bytes mid → code_of new ≡ code_of old → right_of new ≡ right_of old
+    → Say (length page) (without place is.cells) new → IsPlaced page start (without place is.cells) new written
+is_cleared page start old new is place found count free mid head written cell count_is mid_is own within written_is same last say =
+    let less = subst (λ (m : List ℕ). Less (code_of old) page start (right_of old) is.cells is.page_is place m) (sym mid_is) (less_of page start old is place found count free cell count_is) in
+    let now = less_head (code_of old) page start (right_of old) is.cells is.page_is place mid less cell.there (Some head) (own_clear page start old is place found cell within head own) in
+    subst (λ (b : List ℕ). IsPlaced page start (without place is.cells) new b) (sym written_is)
+    (says_so page (written_over head.at head.bytes mid) start old new (without place is.cells) now.now now.long now.front_same same last say)
 
 -- ---- the bytes that are written over
 
@@ -414,20 +449,58 @@ over_is page start pointer_at last count free behind before within =
         ≡ a ++ (first ++ (counted ++ (content ++ (fragments ++ (inner ++ (lasts ++ (none ++ ends)))))))
     flat a first counted content fragments inner lasts none ends = simp append_assoc
 
--- with the freeblock, if the cell becomes one, it says what the other cells say
-pub is_cut : (page : List ℕ) (start : ℕ) (old new : Node) (is : IsNode page start old) (place : ℕ) (found : CellPlace) (count : ℕ) (free : Free) (header : List ℕ) (block : Option (List ℕ)) → IsCellAt page start old is place found → IsPlaceOn start (length page) found → count + 1 ≡ found.count
-    → header ≡ header_with count free → IfSome block (λ bytes. (length bytes ≡ 4) × (found.at + 4 ≤ found.end)) → found.end ≤ length page → code_of new ≡ code_of old → right_of new ≡ right_of old → Say (length page) (without place is.cells) new
-    → IsPlaced page start (without place is.cells) new (with_block found.at block (over_twice page start found.pointer found.last header))
-is_cut page start old new is place found count free header None cell on count_is header_is told within same last say =
-    let written_is = ap (over_twice page start found.pointer found.last) header_is ∙ over_is page start found.pointer found.last count free on.behind on.before on.within in
-    is_removed page start old new is place found count free (over_twice page start found.pointer found.last header) cell count_is written_is same last say
-is_cut page start old new is place found count free header (Some bytes) cell on count_is header_is told within same last say =
+-- the first bytes of the freeblock before are no other cell's
+before_clear : (page : List ℕ) (start : ℕ) (old : Node) (is : IsNode page start old) (place : ℕ) (found : CellPlace) → IsCellAt page start old is place found → found.at ≤ found.end → found.end ≤ length page → (head : FreeblockHead)
+    → (length head.bytes ≡ 4) × (found.last ≤ head.at) × (head.at + 4 ≤ found.at) → AreClear head.at (is.page_is).spans → IsHeadClear page (start + 8 + length (right_of old) + 2 * length is.cells) place (is.page_is).spans head
+before_clear page start old is place found cell proper within head so clear =
+    let four = so.0 in
+    let after = so.1 in
+    let last_is = cell.last_is in
+    let before = so.2 in
+    record {
+      within = omega (arith, four, before, proper, within);
+      after = omega (arith, after, last_is);
+      clear = all_without place (IsClear head.at (length head.bytes)) (is.page_is).spans (subst (λ (n : ℕ). AllByRecursion (IsClear head.at n) (is.page_is).spans) (sym four) clear);
+    }
+
+-- with the freeblocks that are written it says what the other cells say
+pub is_cut : (page : List ℕ) (start : ℕ) (old new : Node) (is : IsNode page start old) (place : ℕ) (found : CellPlace) (count : ℕ) (freed : Freed) (header : List ℕ) → IsCellAt page start old is place found → IsPlaceOn start (length page) found → count + 1 ≡ found.count
+    → header ≡ header_with count freed.free → IsFreed found freed → IfSome freed.before (λ head. AreClear head.at (is.page_is).spans) → found.end ≤ length page → code_of new ≡ code_of old → right_of new ≡ right_of old → Say (length page) (without place is.cells) new
+    → IsPlaced page start (without place is.cells) new (with_head freed.before (with_head freed.block (over_twice page start found.pointer found.last header)))
+is_cut page start old new is place found count freed header cell on count_is header_is told clear within same last say =
+    let kind = code_of old in
+    let right = right_of old in
+    let p = is.page_is in
+    let behind = on.behind in
+    let upto = on.upto in
     let mid = over_twice page start found.pointer found.last header in
-    let mid_is : mid ≡ without_pointer page start found.pointer found.last count free = ap (over_twice page start found.pointer found.last) header_is ∙ over_is page start found.pointer found.last count free on.behind on.before on.within in
-    let long : length mid ≡ length page = ap length mid_is ∙ (less_of page start old is place found count free cell count_is).long in
-    let four = told.0 in
-    let room = told.1 in
-    is_cleared page start old new is place found count free mid bytes (written_over found.at bytes mid) cell count_is mid_is four room (omega (arith, long, four, room, within)) refl same last say
+    let mid_is : mid ≡ without_pointer page start found.pointer found.last count freed.free = ap (over_twice page start found.pointer found.last) header_is ∙ over_is page start found.pointer found.last count freed.free (omega (arith, behind, upto)) on.before on.within in
+    let less = subst (λ (m : List ℕ). Less kind page start right is.cells p place m) (sym mid_is) (less_of page start old is place found count freed.free cell count_is) in
+    let one = less_head kind page start right is.cells p place mid less cell.there freed.block (block_can freed.block told.block) in
+    let two = less_head kind page start right is.cells p place (with_head freed.block mid) one cell.there freed.before (before_can freed.before told.before clear) in
+    says_so page (with_head freed.before (with_head freed.block mid)) start old new (without place is.cells) two.now two.long two.front_same same last say
+  where
+    block_can : (head : Option FreeblockHead) → IfSome head (IsOwn found) → IfSome head (IsHeadClear page (start + 8 + length (right_of old) + 2 * length is.cells) place (is.page_is).spans)
+    block_can None none = none
+    block_can (Some head) own = own_clear page start old is place found cell within head own
+
+    before_can : (head : Option FreeblockHead) → IfSome head (λ head. (length head.bytes ≡ 4) × (found.last ≤ head.at) × (head.at + 4 ≤ found.at)) → IfSome head (λ head. AreClear head.at (is.page_is).spans)
+        → IfSome head (IsHeadClear page (start + 8 + length (right_of old) + 2 * length is.cells) place (is.page_is).spans)
+    before_can None none free = none
+    before_can (Some head) so free = before_clear page start old is place found cell on.proper within head so free
+
+-- what is written is on the page
+pub heads_on : (page : List ℕ) (start : ℕ) (found : CellPlace) (freed : Freed) → IsPlaceOn start (length page) found → found.last ≤ found.at → found.end ≤ length page → IsFreed found freed
+    → IfSome freed.block (IsHeadOn found.last page) × IfSome freed.before (IsHeadOn found.last page)
+heads_on page start found freed on after within told = (block_on freed.block told.block, before_on freed.before told.before)
+  where
+    block_on : (head : Option FreeblockHead) → IfSome head (IsOwn found) → IfSome head (IsHeadOn found.last page)
+    block_on None none = none
+    block_on (Some head) own = (let at = own.at_is in let room = own.room in record { four = own.four; after = omega (arith, at, after); within = omega (arith, at, room, within) })
+
+    before_on : (head : Option FreeblockHead) → IfSome head (λ head. (length head.bytes ≡ 4) × (found.last ≤ head.at) × (head.at + 4 ≤ found.at)) → IfSome head (IsHeadOn found.last page)
+    before_on None none = none
+    before_on (Some head) so = (let before = so.2 in let proper = on.proper in record { four = so.0; after = so.1; within = omega (arith, before, proper, within) })
 
 -- ---- another cell in its place
 

@@ -8,5 +8,6 @@ pub mod Splicing
 pub mod Spreading
 pub mod Placing
 pub mod Replacing
+pub mod Freeing
 pub mod Rewriting
 pub mod Removing

@@ -6,7 +6,8 @@ use Rattle.tree_pack.specs.Placing.{IsPlaced}
 use Rattle.tree_pack.specs.Replacing.{written_over}
 use Rattle.tree_pack.specs.Splicing.{spliced, IsUsual}
 use Rattle.tree_pack.specs.declared.removing.CellCut.{CellCut}
-use Rattle.tree_pack.specs.declared.removing.Free.{Free}
+use Rattle.tree_pack.specs.declared.freeing.Free.{Free}
+use Rattle.tree_pack.specs.declared.freeing.FreeblockHead.{FreeblockHead}
 
 -- The page without the pointer at an offset, of those that end at another, with so many cells counted, and this said of its free bytes.
 abbrev pub without_pointer : List ℕ → ℕ → ℕ → ℕ → ℕ → Free → List ℕ
@@ -20,24 +21,33 @@ without_pointer page start pointer last count free =
 
 -- ---- the same page, written in its place
 
--- The cell's pointer stands after the header and before the end of the pointers, and the freeblock's first bytes after them. All is on the page.
+-- the first bytes of a freeblock, which stand after the pointers on the page
+pub record IsHeadOn (end : ℕ) (page : List ℕ) (head : FreeblockHead) : Type 0 where
+  pub four : length head.bytes ≡ 4
+  pub after : end ≤ head.at
+  pub within : head.at + 4 ≤ length page
+
+-- The cell's pointer stands after the header and before the end of the pointers, and the first bytes of the freeblock, and of the one before it, after
+-- them. All is on the page.
 pub record IsCutOn (page : List ℕ) (start : ℕ) (cut : CellCut) : Type 0 where
   pub behind : start + 8 ≤ cut.pointer
   pub before : cut.pointer + 2 ≤ cut.end
   pub within : cut.end ≤ length page
   pub head : length cut.header ≡ 7
-  pub block : IfSome cut.block (λ bytes. (length bytes ≡ 4) × (cut.end ≤ cut.at) × (cut.at + 4 ≤ length page))
+  pub block : IfSome cut.block (IsHeadOn cut.end page)
+  pub chain : IfSome cut.before (IsHeadOn cut.end page)
 
--- the page with a freeblock at this offset, if there is one
-abbrev pub with_block : ℕ → Option (List ℕ) → List ℕ → List ℕ
-with_block at None page = page
-with_block at (Some bytes) page = written_over at bytes page
+-- the page with the first bytes of a freeblock, if there is one
+abbrev pub with_head : Option FreeblockHead → List ℕ → List ℕ
+with_head None page = page
+with_head (Some head) page = written_over head.at head.bytes page
 
--- The page with the pointers after the cell's one place before and two zero bytes after them, the header without the cell, and the freeblock.
+-- The page with the pointers after the cell's one place before and two zero bytes after them, the header without the cell, the freeblock, and the one
+-- before it.
 abbrev pub cut_at : CellCut → ℕ → List ℕ → List ℕ
 cut_at cut start page =
     let pointers = take (cut.end - (cut.pointer + 2)) (drop (cut.pointer + 2) page) ++ (0 ∷ 0 ∷ []) in
-    with_block cut.at cut.block (written_over (start + 1) cut.header (written_over cut.pointer pointers page))
+    with_head cut.before (with_head cut.block (written_over (start + 1) cut.header (written_over cut.pointer pointers page)))
 
 -- Where a page says a node, and its cells without the one at a place say another of the same type and with the same last child, the page with these
 -- bytes says that one, and a cell is left on it.

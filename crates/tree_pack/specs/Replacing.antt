@@ -16,13 +16,18 @@ pub record IsCellAt (page : List ℕ) (start : ℕ) (node : Node) (is : IsNode p
   pub there : place < length is.cells
   pub long : found.at + length (slice_index_or is.cells place []) ≡ found.end
   pub offset : (slice_index_or is.page_is.spans place no_span).from ≡ found.at
+  pub first_is : found.first ≡ start + 8 + length (right_of node)
   pub pointer_is : found.pointer ≡ start + 8 + length (right_of node) + 2 * place
   pub last_is : found.last ≡ start + 8 + length (right_of node) + 2 * length is.cells
   pub count_is : found.count ≡ length is.cells
 
--- a pointer stands behind a header that begins there, before the last one's end, on a page of so many bytes
+-- The pointers stand behind a header that begins there, on a page of so many bytes, and the cell's own is one of them. The cell begins where a
+-- pointer can say, and doesn't end before it begins.
 pub record IsPlaceOn (start size : ℕ) (found : CellPlace) : Type 0 where
-  pub behind : start + 8 ≤ found.pointer
+  pub behind : start + 8 ≤ found.first
+  pub upto : found.first ≤ found.pointer
   pub before : found.pointer + 2 ≤ found.last
   pub within : found.last ≤ size
   pub few : found.count < 2 ^ 16
+  pub near : found.at < 2 ^ 16
+  pub proper : found.at ≤ found.end

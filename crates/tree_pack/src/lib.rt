@@ -4,6 +4,7 @@
 mod building;
 mod cells;
 mod cutting;
+mod freeing;
 mod laws;
 mod placing;
 mod removing;
@@ -14,6 +15,7 @@ mod spreading;
 
 pub use building::{build, fits};
 pub use cells::{between_cell, entry_cell, key_cell, row_cell};
+pub use freeing::FreeblockHead;
 pub use laws::{
     cells_are_small, cells_lie_on_pages, entries_are_joined, keys_are_short, parts_are_few,
     parts_are_filled, parts_are_well_filled, parts_lie_within, rows_are_joined, rows_are_parted,

@@ -28,7 +28,7 @@ fn stands_at(page: &[u8], at: usize, number: u16) -> bool {
 }
 
 /// The number in two bytes, told by their values: in a loop the compiler then reads many at a time.
-fn number_of(high: u8, low: u8) -> u16
+pub(crate) fn number_of(high: u8, low: u8) -> u16
     ensures value { result ≡ high * 256 + low }
 {
     u16::from(high) * 256 + u16::from(low)

@@ -13,6 +13,8 @@ use tree_page::TreePage;
 /// Where a cell of a page lies.
 #[derive(Clone, Copy)]
 pub(crate) struct CellPlace {
+    /// Where the pointers of all cells begin.
+    pub first: usize,
     /// Where its pointer stands.
     pub pointer: usize,
     /// Where the pointers of all cells end.
@@ -49,6 +51,7 @@ pub(crate) fn cell_at(page: &[u8], start: usize, place: usize) -> Option<CellPla
             let at = usize::from(u16::from_be_bytes([*high, *low]));
             let end = at + cell.len();
             Some(CellPlace {
+                first,
                 pointer,
                 last,
                 count,

@@ -1,16 +1,28 @@
--- A cell is taken off a page in two parts or three, each written over the page.
-use Rattle.std.proofs.Common.{◌≡◌, ℕ, ◌+◌, ◌-◌, ◌≤◌, List, [], ◌∷◌, ◌++◌, length, length-append, take, drop, sym, ap, subst, ◌∙◌, arith}
+-- A cell is taken off a page in parts, each written over the page: pointers, header, and the first bytes of freeblocks.
+use Rattle.std.proofs.Common.{◌≡◌, ℕ, ◌+◌, ◌-◌, ◌≤◌, List, [], ◌∷◌, ◌++◌, length, length-append, take, drop, sym, subst, ◌∙◌, arith}
 use Rattle.std.proofs.lemmas.List.{length-take-le, length-drop}
 use Rattle.std.specs.Prelude.{true, Option, Some, None, Ok, IfSome}
 use Rattle.pages.specs.Counting.{start_of}
 use Rattle.pages.specs.Map.{PageMap, page_at, with_page, written_over, Has, IsThere}
 use Rattle.tree_page.specs.Node.{Say}
-use Rattle.tree_pack.specs.Removing.{IsCutOn, CutsAt, cut_at, with_block}
+use Rattle.tree_pack.specs.Removing.{IsCutOn, IsHeadOn, CutsAt, cut_at, with_head}
 use Rattle.tree_pack.specs.Splicing.{spliced, IsUsual}
+use Rattle.tree_pack.specs.declared.freeing.FreeblockHead.{FreeblockHead}
 use Rattle.tree_pack.specs.declared.removing.CellCut.{CellCut}
+use Rattle.tree_store.specs.Steps.{EndsOnPage, headed}
 use Rattle.tree_store.specs.Storing.{IsRewritten, TakesOff}
 use Rattle.tree_store.proofs.PlacedPages.{start_le, over_long, over_written, still_there}
 use Rattle.tree_store.proofs.PutPages.{is_put}
+
+-- ---- the first bytes of a freeblock
+
+headed_is : (map mid : PageMap) (number : ℕ) (page : List ℕ) → Has map number → mid ≡ with_page map number page → (head : Option FreeblockHead) → headed mid number head ≡ with_page map number (with_head head page)
+headed_is map mid number page has is None = is
+headed_is map mid number page has is (Some head) = over_written map mid number head.at head.bytes page has is
+
+head_long : (page now : List ℕ) → length now ≡ length page → (end : ℕ) (head : Option FreeblockHead) → IfSome head (IsHeadOn end page) → length (with_head head now) ≡ length page
+head_long page now same end None on = same
+head_long page now same end (Some head) on = (let four = on.four in let within = on.within in over_long head.at head.bytes now (omega (arith, four, within, same)) ∙ same)
 
 -- ---- the parts
 
@@ -42,6 +54,10 @@ module _ (map : PageMap) (size number : ℕ) (cut : CellCut) (on : IsCutOn (page
   two_long : length two ≡ length (page_at map number)
   two_long = (let long = one_long in let fit = header_fits in over_long (start_of number + 1) cut.header one (omega (arith, long, fit)) ∙ long)
 
+  ends_within : (head : Option FreeblockHead) → IfSome head (IsHeadOn cut.end (page_at map number)) → IsThere map size number → EndsOnPage size head
+  ends_within None on there = on
+  ends_within (Some head) on there = (let four = on.four in let within = on.within in let whole = there.whole in omega (arith, four, within, whole))
+
   pub first_fits : IsThere map size number → cut.pointer + length pointers ≤ size
   first_fits there = (let fit = pointers_fit in let whole = there.whole in omega (arith, fit, whole))
 
@@ -56,28 +72,33 @@ module _ (map : PageMap) (size number : ℕ) (cut : CellCut) (on : IsCutOn (page
   twice has mid last is then_is = then_is ∙ over_written map mid number (start_of number + 1) cut.header one has is
 
   -- and after that the freeblock
-  pub block_next : (block : List ℕ) → cut.block ≡ Some block → IsThere map size number → (mid last : PageMap) → mid ≡ with_page map number one → last ≡ with_page mid number (written_over (start_of number + 1) cut.header (page_at mid number))
-      → IsThere last size number × (cut.at + length block ≤ size)
-  block_next block block_is there mid last is then_is = (
-    still_there map last size number two there.has (two_long ∙ there.whole) (twice there.has mid last is then_is),
-    (let told = subst (λ (found : Option (List ℕ)). IfSome found (λ bytes. (length bytes ≡ 4) × (cut.end ≤ cut.at) × (cut.at + 4 ≤ length (page_at map number)))) block_is on.block in
-        let four = told.0 in let fit = told.2 in let whole = there.whole in omega (arith, four, fit, whole)),
+  pub block_next : IsThere map size number → (mid last : PageMap) → mid ≡ with_page map number one → last ≡ with_page mid number (written_over (start_of number + 1) cut.header (page_at mid number)) → IsThere last size number × EndsOnPage size cut.block
+  block_next there mid last is then_is = (still_there map last size number two there.has (two_long ∙ there.whole) (twice there.has mid last is then_is), ends_within cut.block on.block there)
+
+  three_is : Has map number → (mid last then : PageMap) → mid ≡ with_page map number one → last ≡ with_page mid number (written_over (start_of number + 1) cut.header (page_at mid number)) → then ≡ headed last number cut.block → then ≡ with_page map number (with_head cut.block two)
+  three_is has mid last then is then_is next_is = next_is ∙ headed_is map last number two has (twice has mid last is then_is) cut.block
+
+  three_long : length (with_head cut.block two) ≡ length (page_at map number)
+  three_long = head_long (page_at map number) two two_long cut.end cut.block on.block
+
+  -- and then the one before it
+  pub chain_next : IsThere map size number → (mid last then : PageMap) → mid ≡ with_page map number one → last ≡ with_page mid number (written_over (start_of number + 1) cut.header (page_at mid number)) → then ≡ headed last number cut.block
+      → IsThere then size number × EndsOnPage size cut.before
+  chain_next there mid last then is then_is next_is = (
+    still_there map then size number (with_head cut.block two) there.has (three_long ∙ there.whole) (three_is there.has mid last then is then_is next_is),
+    ends_within cut.before on.chain there,
   )
 
   -- these are the page without the cell
-  pub all_cut : Has map number → (mid last : PageMap) → mid ≡ with_page map number one → last ≡ with_page mid number (written_over (start_of number + 1) cut.header (page_at mid number)) → cut.block ≡ None → last ≡ with_page map number (cut_at cut (start_of number) (page_at map number))
-  all_cut has mid last is then_is block_is = twice has mid last is then_is ∙ ap (λ (block : Option (List ℕ)). with_page map number (with_block cut.at block two)) (sym block_is)
-
-  pub all_cut_with : (block : List ℕ) → cut.block ≡ Some block → Has map number → (mid last new : PageMap) → mid ≡ with_page map number one → last ≡ with_page mid number (written_over (start_of number + 1) cut.header (page_at mid number))
-      → new ≡ with_page last number (written_over cut.at block (page_at last number)) → new ≡ with_page map number (cut_at cut (start_of number) (page_at map number))
-  all_cut_with block block_is has mid last new is then_is now_is =
-      now_is ∙ over_written map last number cut.at block two has (twice has mid last is then_is) ∙ ap (λ (found : Option (List ℕ)). with_page map number (with_block cut.at found two)) (sym block_is)
+  pub all_cut : Has map number → (mid last then new : PageMap) → mid ≡ with_page map number one → last ≡ with_page mid number (written_over (start_of number + 1) cut.header (page_at mid number)) → then ≡ headed last number cut.block → new ≡ headed then number cut.before
+      → new ≡ with_page map number (cut_at cut (start_of number) (page_at map number))
+  all_cut has mid last then new is then_is next_is now_is = now_is ∙ headed_is map then number (with_head cut.block two) has (three_is has mid last then is then_is next_is) cut.before
 
 -- ---- what became of the page
 
 -- the cell is gone
 pub taken_off : (old new : PageMap) (size number place : ℕ) (cut : CellCut) → CutsAt (page_at old number) (start_of number) place (Some cut)
-    → (Has old number → new ≡ with_page old number (cut_at cut (start_of number) (page_at old number))) → TakesOff old new size number place (Ok true)
+    → (IsThere old size number → new ≡ with_page old number (cut_at cut (start_of number) (page_at old number))) → TakesOff old new size number place (Ok true)
 taken_off old new size number place cut at written free are has none was now is least near lt same last say =
     let page = page_at old number in
     let whole = are.whole number has in
@@ -89,7 +110,7 @@ taken_off old new size number place cut at written free are has none was now is 
       (
         image,
         placed,
-        subst (λ (m : PageMap). IsRewritten old m size free number image) (sym (written has)) (is_put old size free number image are has none (record { sized = placed.long ∙ whole; front = placed.front })),
+        subst (λ (m : PageMap). IsRewritten old m size free number image) (sym (written (record { has = has; whole = whole }))) (is_put old size free number image are has none (record { sized = placed.long ∙ whole; front = placed.front })),
       ),
       λ taken. some,
     )

@@ -1,17 +1,18 @@
 -- The steps in which packed pages are stored.
-use Rattle.std.specs.Prelude.{◌≡◌, ◌⊎◌, ◌<◌, ◌≤◌, ℕ, List, [], ◌∷◌, ◌++◌, length, ⊤, Result, MatchResult}
+use Rattle.std.specs.Prelude.{◌≡◌, ◌⊎◌, ◌<◌, ◌≤◌, ◌+◌, ℕ, List, [], ◌∷◌, ◌++◌, length, ⊤, Option, None, Some, IfSome, Result, MatchResult}
 use Rattle.std.specs.List.{AllByRecursion}
 use Rattle.std.specs.Int.{w32, to_be_bytes}
 use Rattle.sqlval.specs.Faults.{IsOutside}
 use Rattle.sqlval.specs.declared.fault.Fault.{Fault}
 use Rattle.sqlval.specs.declared.fault.Fault.TheVariants.{Full}
 use Rattle.pages.specs.Counting.{occurs, start_of, Moves}
-use Rattle.pages.specs.Map.{PageMap, page_at, Has}
+use Rattle.pages.specs.Map.{PageMap, page_at, with_page, written_over, Has, IsThere}
 use Rattle.freelist.specs.Calls.{AreFree, HasFree, KeepsHeader}
 use Rattle.tree_page.specs.Cells.{Pairwise, IsTreePage}
 use Rattle.tree_page.specs.Reading.{type_of}
 use Rattle.tree_page.specs.declared.items.Kind.{Kind}
 use Rattle.tree_pack.specs.Building.{Fits, right_room}
+use Rattle.tree_pack.specs.declared.freeing.FreeblockHead.{FreeblockHead}
 use Rattle.tree_store.specs.Storing.{IsOn, AreOlds}
 
 -- Pages moved, and the header tells those that are free now.
@@ -19,6 +20,21 @@ pub record HasMoved (old new : PageMap) (size : ℕ) (used free now_used now_fre
   pub has : HasFree new size now_free
   pub moves : Moves old new used free now_used now_free
   pub header : KeepsHeader old new
+
+-- ---- one freeblock
+
+-- the pages where a page has the first bytes of a freeblock, if there is one
+abbrev pub headed : PageMap → ℕ → Option FreeblockHead → PageMap
+headed map number None = map
+headed map number (Some head) = with_page map number (written_over head.at head.bytes (page_at map number))
+
+-- these bytes end within a page
+abbrev pub EndsOnPage : ℕ → Option FreeblockHead → Type 0
+EndsOnPage size head = IfSome head (λ head. head.at + length head.bytes ≤ size)
+
+-- where the page is there and has them, they are written; or memory was short, or a disk's call failed
+abbrev pub WritesHead : PageMap → PageMap → ℕ → ℕ → Option FreeblockHead → Result ⊤ Fault → Type 0
+WritesHead old new size number head result = IsThere old size number → EndsOnPage size head → MatchResult result (λ done. new ≡ headed old number head) IsOutside
 
 -- ---- taking
 

@@ -9,13 +9,13 @@ ghost use Rattle.pages.specs.Map.{page_at, IsThere};
 ghost use Rattle.tree_pack.specs.Building.{right_room};
 ghost use Rattle.tree_pack.specs.Packing.{images};
 ghost use Rattle.tree_store.specs.Storing.{PlacesOn, TakesOff, Rewrites, Stores, Roots, cells_over, cells_of};
-ghost use Rattle.tree_store.specs.Steps.{TakesMore, WritesAll, GivesAll, Raises};
+ghost use Rattle.tree_store.specs.Steps.{TakesMore, WritesAll, WritesHead, GivesAll, Raises};
 
 use freelist::{give, take};
 use pages::WritePages;
 use sqlval::{Damage, Fault, R};
 use std::alloc::Global;
-use tree_pack::{CellCut, CellRoom, Packed, Piece, build, cut_for, fits, room_for};
+use tree_pack::{CellCut, CellRoom, FreeblockHead, Packed, Piece, build, cut_for, fits, room_for};
 use tree_page::Kind;
 
 /// What an interior page gets for pages side by side.
@@ -103,6 +103,20 @@ fn pointers_without(alloc: Global, cut: CellCut, page: &[u8]) -> R<Vec<u8>>
     Ok(pointers)
 }
 
+/// Writes the first bytes of a freeblock, if there is one. (What `write_over` refuses.)
+fn write_head<P: WritePages>(pages: &mut P, number: u32, head: Option<FreeblockHead>) -> R<()>
+    ensures written { IsTrue (P.Pages.tells (P.Pages.below pages.old))
+        → WritesHead (P.Pages.map pages.old) (P.Pages.map pages.new)
+        (P.Pages.limits (P.Pages.below pages.old)).page number head result }
+    ensures kept { P.Pages.below pages.new ≡ P.Pages.below pages.old }
+    ensures causes { Causes result (P.Pages.failures pages.old) (P.Pages.failures pages.new) ⊥ }
+{
+    if let Some(head) = head {
+        pages.write_over(number, head.at, &head.bytes)?;
+    }
+    Ok(())
+}
+
 /// Takes the cell at a place off a page without moving any other, if its bytes can be told as free where they lie, and a cell is left. Answers
 /// whether it did; if not, nothing changes. (`Memory`, and what `load` and `write_over` refuse.)
 pub fn take_off<P: WritePages>(alloc: Global, pages: &mut P, number: u32, place: usize) -> R<bool>
@@ -121,9 +135,8 @@ pub fn take_off<P: WritePages>(alloc: Global, pages: &mut P, number: u32, place:
     let pointers = pointers_without(alloc, cut, page)?;
     pages.write_over(number, cut.pointer, pointers.as_slice())?;
     pages.write_over(number, start + 1, &cut.header)?;
-    if let Some(block) = cut.block {
-        pages.write_over(number, cut.at, &block)?;
-    }
+    write_head(pages, number, cut.block)?;
+    write_head(pages, number, cut.before)?;
     Ok(true)
 }
 

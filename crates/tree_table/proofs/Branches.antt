@@ -81,7 +81,7 @@ plan_side old mid size number depth low high sized used free rows s lies sorted 
       rows_are = sym (cut.gives (rows_of depth)) ∙ rows_are;
       now_free = now_free;
       has = has;
-      moves = subst (λ (pages : List ℕ). Moves old mid used free pages now_free) (cut.gives (pages_of depth)) moves;
+      moves = subst (λ (pages : List ℕ). Moves old mid (number ∷ used) free (number ∷ pages) now_free) (cut.gives (pages_of depth)) (beside old mid used free (pages_in depth s.0 s.1) now_free number moves);
       header = header;
       sized = subst (λ (n : ℕ). AllByRecursion (λ image. length image ≡ n) (images packed)) long packs_now.sized;
       front = λ none. front_alone (take start page) packed.last.items start front_len (packs_now.front_is (no_counts packs_now.counts packed.pieces.items counted none));

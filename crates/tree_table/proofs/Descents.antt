@@ -63,6 +63,9 @@ module _ (old : PageMap) (size number ways : ℕ) (rowid : ℤ) (low : ℤ) (t :
       let is = leaf_step (Ok (Found place)) steps in
       found_there old size rowid leaf_said t.rows (under.lies).rows (subst (λ (n : ℕ). HasRowid rowid leaf_said n) is.0 is.1)
 
+  pub leaf_place : (place : ℕ) → StepsFrom old size number rowid (Ok (Found place)) → place ≡ below rowid (ids_of t.rows)
+  leaf_place place steps = (leaf_step (Ok (Found place)) steps).0 ∙ ap (below rowid) leaf_ids
+
   leaf_here : (place : ℕ) → StepsFrom old size number rowid (Ok (Here place)) → (payload_at rowid (rows_of zero t) ≡ None) × (place ≡ below rowid (ids_of t.rows))
   leaf_here place steps =
       let is = leaf_step (Ok (Here place)) steps in (
@@ -100,7 +103,7 @@ is_zero n e = grind (arith, common_steps)
 is_more : (n : ℕ) → nat_eq n 0 ≡ false → 0 < n
 is_more n e = grind (arith, common_steps)
 
-deep_leaf : (ways : ℕ) → IsDeep ways zero (nat_eq ways 0)
+pub deep_leaf : (ways : ℕ) → IsDeep ways zero (nat_eq ways 0)
 deep_leaf ways = record { full = λ e. is_zero ways e; short = λ e. is_more ways e }
 
 -- what becomes of the leaf

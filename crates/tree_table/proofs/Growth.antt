@@ -8,7 +8,7 @@ use Rattle.pages.specs.Map.{PageMap, Has}
 use Rattle.pages.proofs.Moving.{in_sequence, occurs_append}
 use Rattle.freelist.specs.Calls.{HasFree, KeepsHeader}
 use Rattle.freelist.proofs.Lists.{occurs_self}
-use Rattle.tree_overflow.proofs.Laying.{beside, keeps_then}
+use Rattle.tree_overflow.proofs.Laying.{keeps_then}
 use Rattle.tree_page.specs.Cells.{Pairwise}
 use Rattle.tree_page.specs.Node.{IsKeyCell}
 use Rattle.tree_pack.specs.Building.{cell_room}
@@ -22,7 +22,7 @@ use Rattle.tree_store.specs.declared.storing.Fan.{Fan}
 use Rattle.tree_table.specs.Growing.{below_of, IsTop, all_of, start_in, IsPlanned, IsUnder}
 use Rattle.tree_table.specs.Tree.{Tree, top, rows_of, pages_of, IsSorted, Lies}
 use Rattle.tree_table.proofs.Holes.{Kids, keys_of, pages_in}
-use Rattle.tree_table.proofs.Passing.{IsAfter, after, once_after, top_there, tree_up, below_up, beside_used, others_seen, AreUpTo}
+use Rattle.tree_table.proofs.Passing.{IsAfter, after_top, once_after, top_there, tree_up, beside_used, others_seen, AreUpTo}
 use Rattle.tree_table.proofs.Planting.{plant, pages_split, after_one}
 use Rattle.tree_table.proofs.Staying.{shows_stays}
 
@@ -96,15 +96,14 @@ module _ (old mid : PageMap) (size number ways : ℕ) (rowid : ℤ) (depth : ℕ
   top_up n some = tree_up old size depth t under.lies n (let e = ap (occurs n) (pages_split depth t) in let f = ap (λ (m : ℕ). occurs n (m ∷ below_of depth t)) under.top_is in omega (arith, e, f, some))
 
   pub moves_top : Moves old mid (number ∷ below_of depth t) free (number ∷ parts) plan.now_free
-  moves_top = beside old mid (below_of depth t) free parts plan.now_free number plan.moves
+  moves_top = plan.moves
 
   -- neither the top's page nor the others is free or used twice
   pub planned_once : (n : ℕ) → occurs n (number ∷ parts) + occurs n plan.now_free ≤ 1
   planned_once = once_after old mid size (number ∷ below_of depth t) free (number ∷ parts) plan.now_free under.free_are moves_top top_up top_once
 
   pub planned_after : IsAfter mid size parts plan.now_free
-  planned_after = after old mid size (below_of depth t) free parts plan.now_free under.free_are plan.moves plan.has (below_up old size depth t under.lies)
-      (λ n. (let once = top_once n in omega (arith, once))) under.first
+  planned_after = after_top old mid size number (below_of depth t) free parts plan.now_free under.free_are plan.moves plan.has top_up top_once under.first
 
   pub number_there : Has mid number
   number_there =

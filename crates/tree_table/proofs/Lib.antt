@@ -23,6 +23,7 @@ mod RunFrees
 mod RunPlaces
 mod RunMade
 mod TakenRows
+mod ComingAgain
 mod Replaced
 mod ChangedRuns
 mod Narrowing

@@ -19,7 +19,7 @@ without_right : (rowid : ℤ) (left rest : List Entry) → AreLess rowid left �
 without_right rowid [] rest h = refl
 without_right rowid (row ∷ left) rest h = rw (less_not row.rowid rowid h.0) (ap (λ (rows : List Entry). row ∷ rows) (without_right rowid left rest h.1))
 
-without_none : (rowid : ℤ) (rows : List Entry) → AreGreater rowid rows → without_row rowid rows ≡ rows
+pub without_none : (rowid : ℤ) (rows : List Entry) → AreGreater rowid rows → without_row rowid rows ≡ rows
 without_none rowid [] h = refl
 without_none rowid (row ∷ rows) h = rw (greater_not row.rowid rowid h.0) (ap (λ (rest : List Entry). row ∷ rest) (without_none rowid rows h.1))
 

@@ -9,7 +9,7 @@ use Rattle.pages.specs.Calls.{IsOutsideOrFull}
 use Rattle.pages.specs.Counting.{occurs, body_at, Moves}
 use Rattle.pages.specs.Map.{PageMap}
 use Rattle.pages.proofs.Moving.{in_sequence}
-use Rattle.tree_overflow.proofs.Laying.{keeps_then}
+use Rattle.tree_overflow.proofs.Laying.{beside, keeps_then}
 use Rattle.tree_pack.specs.declared.spreading.Packed.{Packed}
 use Rattle.tree_table.specs.Growing.{below_of, IsPlanned, IsUnder, IsPut}
 use Rattle.tree_table.specs.Joining.{IsJoinedAt, JoinsAt}
@@ -71,7 +71,8 @@ module _ (old mid : PageMap) (size number ways : ℕ) (rowid : ℤ) (depth : ℕ
     rows_are = plan.rows_are ∙ put.rows_are;
     now_free = plan.now_free;
     has = plan.has;
-    moves = in_sequence old mid new (below_of (suc depth) t) free (below_of (suc depth) u) put.now_free _ plan.now_free below_moves plan.moves;
+    moves = in_sequence old mid new (number ∷ below_of (suc depth) t) free (number ∷ below_of (suc depth) u) put.now_free _ plan.now_free
+        (beside old mid (below_of (suc depth) t) free (below_of (suc depth) u) put.now_free number below_moves) plan.moves;
     header = keeps_then old mid new put.header plan.header;
     sized = plan.sized;
     front = plan.front;

@@ -116,6 +116,28 @@ after old new size used free now_used now_free are moves has up apart first =
       first = omega (arith, none_one, counts, behind, first);
     }
 
+-- The same beside a page at the top, which may be page 1.
+pub after_top : (old new : PageMap) (size page : ℕ) (used free now_used now_free : List ℕ) → AreFree old size free → Moves old new (page ∷ used) free (page ∷ now_used) now_free → HasFree new size now_free
+    → AreUpTo (length old) (page ∷ used) → ((n : ℕ) → occurs n (page ∷ used) + occurs n free ≤ 1) → occurs 1 used ≡ 0 → IsAfter new size now_used now_free
+after_top old new size page used free now_used now_free are moves has up apart first =
+    let once = once_after old new size (page ∷ used) free (page ∷ now_used) now_free are moves up apart in
+    let there = ((one_there old size free are).has).last in
+    let none_one = not_fresh (length old) (length new) 1 there in
+    let counts = moves.counts 1 in
+    let behind = are.behind in
+    let was = occurs_append 1 (page ∷ []) used in
+    let now = occurs_append 1 (page ∷ []) now_used in
+    record {
+      are = record {
+        has = has;
+        once = record { once = λ n. (let both = once n in omega (arith, both)) };
+        behind = omega (arith, none_one, counts, behind, first, was, now);
+        whole = moves.whole size are.whole;
+      };
+      apart = λ n. (let both = once n in let e = occurs_append n (page ∷ []) now_used in omega (arith, both, e));
+      first = omega (arith, none_one, counts, behind, first, was, now);
+    }
+
 -- ---- beside others
 
 pub beside_used : (old new : PageMap) (used free now_used now_free others all now_all : List ℕ) → Moves old new used free now_used now_free → IsJoined used others all → IsJoined now_used others now_all

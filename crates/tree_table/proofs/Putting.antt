@@ -22,7 +22,7 @@ use Rattle.tree_page.specs.declared.items.Kind.TheVariants.{TableLeaf}
 use Rattle.tree_page.proofs.HeaderLemmas.{same_length}
 use Rattle.tree_page.proofs.Places.{below_within}
 use Rattle.tree_overflow.specs.Calls.{IsWritten}
-use Rattle.tree_overflow.proofs.Laying.{keeps_then}
+use Rattle.tree_overflow.proofs.Laying.{beside, keeps_then}
 use Rattle.tree_pack.specs.Building.{cell_room}
 use Rattle.tree_pack.specs.Lists.{row_parts}
 use Rattle.tree_pack.specs.Packing as packing
@@ -212,8 +212,9 @@ module _ (old mid : PageMap) (size number ways : ℕ) (row : Entry) (low : ℤ) 
           rows_are = cut.rows_are ∙ sym (leaf_with new_row t.rows absent);
           now_free = w.now_free;
           has = w.has;
-          moves = subst (λ (pages : List ℕ). Moves old mid (below_of zero t) free pages w.now_free) (sym cut.chains_are)
-              (beside_used old mid [] free w.chain w.now_free (below_of zero t) (below_of zero t) (chains_of rows) w.moves (λ n. omega arith) (λ n. put_chains n place new_row t.rows));
+          moves = subst (λ (pages : List ℕ). Moves old mid (number ∷ below_of zero t) free (number ∷ pages) w.now_free) (sym cut.chains_are)
+              (beside old mid (below_of zero t) free (chains_of rows) w.now_free number
+              (beside_used old mid [] free w.chain w.now_free (below_of zero t) (below_of zero t) (chains_of rows) w.moves (λ n. omega arith) (λ n. put_chains n place new_row t.rows)));
           header = w.header;
           sized = subst (λ (n : ℕ). AllByRecursion (λ image. length image ≡ n) (images packed)) long packs.sized;
           front = λ none. front_alone (take start page) packed.last.items start front_len (packs.front_is (no_counts packs.counts packed.pieces.items counted none));

@@ -7,7 +7,7 @@ use Rattle.tree_leaf.specs.Leaf.{Entry}
 use Rattle.pages.specs.Counting.{occurs, start_of, Moves}
 use Rattle.pages.specs.Map.{PageMap, page_at, AreWhole, IsThere}
 use Rattle.pages.proofs.Moving.{in_sequence}
-use Rattle.tree_overflow.proofs.Laying.{keeps_then}
+use Rattle.tree_overflow.proofs.Laying.{beside, keeps_then}
 use Rattle.tree_page.specs.Cells.{Pairwise}
 use Rattle.tree_page.specs.Node.{Local, Rows, IsNode, IsRowCell}
 use Rattle.tree_page.specs.Payload.{table_most}
@@ -206,7 +206,8 @@ module _ (old : PageMap) (size number ways : ℕ) (rowid low : ℤ) (t : Leaf) (
           rows_are = cut.rows_are ∙ rows_exchanged t.rows high 0 changes places w.rows low same under.sorted run w.entries_are;
           now_free = w.now_free;
           has = (w.free_are).has;
-          moves = subst (λ (pages : List ℕ). Moves old new (below_of zero t) free pages w.now_free) (sym cut.chains_are) new_moves;
+          moves = subst (λ (pages : List ℕ). Moves old new (number ∷ below_of zero t) free (number ∷ pages) w.now_free) (sym cut.chains_are)
+              (beside old new (below_of zero t) free (chains_of rows) w.now_free number new_moves);
           header = keeps_then old mid new given.header w.header;
           sized = subst (λ (n : ℕ). AllByRecursion (λ image. length image ≡ n) (images packed)) long packs.sized;
           front = λ none. front_alone (take start page) packed.last.items start front_len (packs.front_is (no_counts packs.counts packed.pieces.items counted none));

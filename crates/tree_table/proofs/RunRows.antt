@@ -72,7 +72,7 @@ rises_swap low (z ∷ left) x y right more high h same rest = (h.0, rises_swap z
 
 -- ---- what a change leaves of its row
 
-equal_is : (a b : ℤ) → a ≡ b → int_eq a b ≡ true
+pub equal_is : (a b : ℤ) → a ≡ b → int_eq a b ≡ true
 equal_is a b e = elim (same_or_other a b) [
   | inl same ↦ same.0
   | inr other ↦ absurd (other.1 e)
@@ -81,7 +81,7 @@ equal_is a b e = elim (same_or_other a b) [
 equal_le : (a b : ℤ) → a ≡ b → a ≤ℤ b
 equal_le a b e = omega (arith, ints)
 
-put_there : (less same : Bool) (x y z : List Entry) → less ≡ false → same ≡ true → (if less then x else (if same then y else z)) ≡ y
+pub put_there : (less same : Bool) (x y z : List Entry) → less ≡ false → same ≡ true → (if less then x else (if same then y else z)) ≡ y
 put_there true same x y z no_less is_same = absurd (let e = no_less in cc)
 put_there false true x y z no_less is_same = refl
 put_there false false x y z no_less is_same = absurd (let e = is_same in cc)

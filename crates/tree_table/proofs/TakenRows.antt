@@ -1,10 +1,8 @@
 -- A row is taken off its leaf, where it lies.
-use Rattle.std.proofs.Common.{◌≡◌, ◌≤◌, ◌<◌, ◌+◌, ◌-◌, ℕ, zero, suc, ℤ, ◌≤ℤ◌, Bool, true, false, List, [], ◌∷◌, ◌++◌, length, take, drop, slice_index_or, Option, None, refl, sym, ap, subst, ◌∙◌, inl, arith}
-use Rattle.std.specs.Global.{Vec}
+use Rattle.std.proofs.Common.{◌≡◌, ◌≤◌, ◌<◌, ◌+◌, ◌-◌, ℕ, zero, suc, ℤ, Bool, true, false, List, [], ◌∷◌, ◌++◌, length, take, drop, slice_index_or, None, refl, sym, ap, subst, ◌∙◌, inl, arith}
 use Rattle.std.specs.Prelude.{All, Result, Ok, Err, MatchResult}
 use Rattle.sqlval.specs.declared.fault.Fault.{Fault}
 use Rattle.sqlval.specs.Faults.{IsOutside}
-use Rattle.tree_leaf.specs.Leaf.{Entry}
 use Rattle.pages.specs.Calls.{IsOutsideOrFull}
 use Rattle.pages.specs.Counting.{occurs, start_of}
 use Rattle.pages.specs.Laws.{IsJoined}
@@ -20,19 +18,17 @@ use Rattle.tree_pack.proofs.Splices.{pairwise_spliced}
 use Rattle.tree_store.specs.Saying.{Says}
 use Rattle.tree_store.specs.Storing.{IsPlacedOn, TakesOff}
 use Rattle.tree_store.proofs.PutPages.{put_there}
-use Rattle.tree_table.specs.Growing.{IsEdited, IsPut, IsThereAt, IsUnder}
-use Rattle.tree_table.specs.Rows.{with_change, with_changes, without_row, IsLocal}
-use Rattle.tree_table.specs.Runs.{IsFirst, IsNoRun, IsRemoval, IsTakenOff, TakesRow, none_held}
+use Rattle.tree_table.specs.Growing.{IsPut, IsUnder}
+use Rattle.tree_table.specs.Rows.{without_row}
+use Rattle.tree_table.specs.Runs.{IsOneChange, IsTakenOff, TakesRow, none_held}
 use Rattle.tree_table.specs.Stepping.{StepsFrom}
 use Rattle.tree_table.specs.Tree.{Held, IsHeldAs, Leaf, Rises, Tree, pages_of, rows_of}
 use Rattle.tree_table.specs.declared.changing.RowChange.{RowChange}
 use Rattle.tree_table.specs.declared.descending.Step.TheVariants.{Found}
-use Rattle.tree_table.specs.declared.growing.Change.TheVariants.{Same}
-use Rattle.tree_table.proofs.Descents.{leaf_at, not_inside, step_found}
+use Rattle.tree_table.proofs.Descents.{leaf_at, not_inside}
 use Rattle.tree_table.proofs.Few.{large_size}
 use Rattle.tree_table.proofs.Givings.{chain_of}
 use Rattle.tree_table.proofs.Leaves.{chains_of}
-use Rattle.tree_table.proofs.Locals.{changes_local, same_le}
 use Rattle.tree_table.proofs.Orders.{rows_in}
 use Rattle.tree_table.proofs.Passing.{beside_used, others_seen}
 use Rattle.tree_table.proofs.RunFrees.{item, none_go_on}
@@ -164,7 +160,7 @@ module _ (old : PageMap) (size number ways : ℕ) (rowid low : ℤ) (t : Leaf) (
           header = rewritten.header;
         }
 
-    pub row_taken : (changes : List RowChange) → IsRemoval changes → (new : PageMap) (result : Result Bool Fault) → TakesOff old new size number place result
+    pub row_taken : (changes : List RowChange) → IsOneChange changes → (new : PageMap) (result : Result Bool Fault) → TakesOff old new size number place result
         → MatchResult result (IsTakenOff old new size number rowid changes low t high free) IsOutside
     row_taken changes alone new result takes =
         by result (takes free under.free_are says.has unfree (Rows said) (Rows new_said) node (large_size size under.sized).0 (large_size size under.sized).1 within refl refl say)
@@ -178,38 +174,22 @@ module _ (old : PageMap) (size number ways : ℕ) (rowid low : ℤ) (t : Leaf) (
 
 -- ---- the tree
 
-removed_is : (rowid : ℤ) (changes : List RowChange) → IsRemoval changes → IsFirst rowid changes → (rows : List Entry) → with_changes (take 1 changes) rows ≡ without_row rowid rows
-removed_is rowid [] alone first rows = absurd alone
-removed_is rowid (change ∷ []) alone first rows =
-    ap (λ (payload : Option (Vec ℕ)). with_change (record { rowid = change.rowid; payload = payload }) rows) alone ∙ ap (λ (z : ℤ). without_row z rows) first
-removed_is rowid (change ∷ next ∷ changes) alone first rows = absurd alone
-
-removed_local : (rowid high : ℤ) (changes : List RowChange) → IsRemoval changes → IsFirst rowid changes → rowid ≤ℤ high → IsLocal rowid high (with_changes (take 1 changes))
-removed_local rowid high [] alone first upto = absurd alone
-removed_local rowid high (change ∷ []) alone first upto =
-    changes_local rowid high (change ∷ []) (subst (λ (z : ℤ). (rowid ≤ℤ z) × (z ≤ℤ high)) (sym first) (same_le rowid, upto), tt)
-removed_local rowid high (change ∷ next ∷ changes) alone first upto = absurd alone
-
--- the row was taken off its leaf, below which there is nothing; or nothing has changed
-abbrev pub IsStepTaken : PageMap → PageMap → ℕ → ℕ → ℕ → ℤ → List RowChange → (depth : ℕ) → ℤ → Tree depth → ℤ → List ℕ → Bool → Type 0
-IsStepTaken old new size number ways rowid changes depth low t high free true = IsEdited (IsNoRun 1) IsThereAt old new size number ways rowid (with_changes (take 1 changes)) depth low t high free Same
-IsStepTaken old new size number ways rowid changes depth low t high free false = new ≡ old
+-- The row was taken off its leaf, or nothing has changed.
+abbrev pub IsStepTaken : PageMap → PageMap → ℕ → ℕ → ℤ → List RowChange → (depth : ℕ) → ℤ → Tree depth → ℤ → List ℕ → Bool → Type 0
+IsStepTaken old new size number rowid changes depth low t high free true = IsOneChange changes × IsPut old new size number depth low high (without_row rowid (rows_of depth t)) (pages_of depth t) free
+IsStepTaken old new size number rowid changes depth low t high free false = new ≡ old
 
 pub step_taken : (old new : PageMap) (size number ways place : ℕ) (rowid : ℤ) (depth : ℕ) (low : ℤ) (t : Tree depth) (high : ℤ) (free : List ℕ) → IsUnder old size number ways rowid depth low t high free
-    → StepsFrom old size number rowid (Ok (Found place)) → (changes : List RowChange) → IsFirst rowid changes → (result : Result Bool Fault) → TakesRow old new size number place changes result
-    → MatchResult result (IsStepTaken old new size number ways rowid changes depth low t high free) IsOutsideOrFull
-step_taken old new size number ways place rowid zero low t high free under steps changes first result takes =
+    → StepsFrom old size number rowid (Ok (Found place)) → (changes : List RowChange) → (result : Result Bool Fault) → TakesRow old new size number place changes result
+    → MatchResult result (IsStepTaken old new size number rowid changes depth low t high free) IsOutsideOrFull
+step_taken old new size number ways place rowid zero low t high free under steps changes result takes =
     let at = leaf_at old size number ways rowid low t high free under place steps in
     by result (takes ways rowid low t high free under at.0 at.1)
   where
     by : (result : Result Bool Fault) → MatchResult result (IsTakenOff old new size number rowid changes low t high free) IsOutside
-        → MatchResult result (IsStepTaken old new size number ways rowid changes zero low t high free) IsOutsideOrFull
-    by (Ok true) is = (
-      step_found old size number ways place rowid zero low t high free under steps,
-      removed_local rowid high changes is.0 first under.upto,
-      subst (λ (rows : List Entry). IsPut old new size number zero low high rows (pages_of zero t) free) (sym (removed_is rowid changes is.0 first (rows_of zero t))) is.1,
-    )
+        → MatchResult result (IsStepTaken old new size number rowid changes zero low t high free) IsOutsideOrFull
+    by (Ok true) is = is
     by (Ok false) is = is
     by (Err fault) outside = inl outside
-step_taken old new size number ways place rowid (suc depth) low t high free under steps changes first result takes =
+step_taken old new size number ways place rowid (suc depth) low t high free under steps changes result takes =
     absurd (not_inside old size number ways place rowid depth low t high free under steps)

@@ -51,7 +51,7 @@ abbrev pub start_in : ℕ → List Piece → ℕ
 start_in number [] = start_of number
 start_in number (piece ∷ pieces) = 0
 
--- Packed pages are the tops of subtrees of these rows, whose other pages are stored.
+-- Packed pages are the tops of subtrees of these rows, whose other pages are stored. What the page has that they take the place of may have changed.
 pub record IsPlanned (old new : PageMap) (size number depth : ℕ) (low high : ℤ) (rows : List Entry) (used free : List ℕ) (packed : Packed) : Type 0 where
   pub kids : List (Tree depth × ℤ)
   pub last : Tree depth
@@ -61,7 +61,7 @@ pub record IsPlanned (old new : PageMap) (size number depth : ℕ) (low high : �
   pub rows_are : each_of (rows_of depth) nothing kids last ≡ rows
   pub now_free : List ℕ
   pub has : HasFree new size now_free
-  pub moves : Moves old new used free (each_of (below_of depth) nothing kids last) now_free
+  pub moves : Moves old new (number ∷ used) free (number ∷ each_of (below_of depth) nothing kids last) now_free
   pub header : KeepsHeader old new
   pub sized : AllByRecursion (λ image. length image ≡ size) (images packed)
   pub front : packed.pieces.items ≡ [] → take (start_of number) packed.last.items ≡ take (start_of number) (page_at new number)

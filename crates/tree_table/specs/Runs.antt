@@ -12,7 +12,7 @@ use Rattle.pages.specs.Counting.{Moves}
 use Rattle.pages.specs.Map.{PageMap}
 use Rattle.freelist.specs.Calls.{AreFree, KeepsHeader}
 use Rattle.tree_page.specs.Node.{Local, Node, Rows, IsNode, IsRowCell}
-use Rattle.tree_page.specs.Reading.{Place, NeverFall}
+use Rattle.tree_page.specs.Reading.{Place, NeverFall, below}
 use Rattle.tree_page.specs.declared.items.Kind.TheVariants.{TableLeaf}
 use Rattle.tree_pack.specs.Building.{cell_room}
 use Rattle.tree_pack.specs.Packing.{AreOf, Packs}
@@ -21,12 +21,13 @@ use Rattle.tree_pack.specs.Splicing.{IsUsual}
 use Rattle.tree_pack.specs.declared.spreading.Packed.{Packed}
 use Rattle.tree_table.specs.Calls.{Stands, BecomesRows, IsTreeEdited}
 use Rattle.tree_table.specs.Freeing.{AreGivenBack}
-use Rattle.tree_table.specs.Growing.{below_of, IsPlanned, IsPut, IsUnder, IsThereAt, Edits}
-use Rattle.tree_table.specs.Rows.{payload_at, without_row, with_changes, IsLocal}
+use Rattle.tree_table.specs.Growing.{below_of, IsPlanned, IsPut, IsUnder, IsThereAt, IsDeep, Edits}
+use Rattle.tree_table.specs.Rows.{payload_at, with_row, without_row, with_changes, IsLocal}
 use Rattle.tree_table.specs.Stepping.{HasRowid}
 use Rattle.tree_table.specs.Tree.{Held, IsHeldAs, Leaf, rows_of, pages_of}
 use Rattle.tree_table.specs.declared.changing.RowChange.{RowChange}
 use Rattle.tree_table.specs.declared.growing.Change.{Change}
+use Rattle.tree_table.specs.declared.growing.Change.TheVariants.{Still, Same, Spread}
 
 -- ---- which changes make a run
 
@@ -188,25 +189,46 @@ ChangesLeaf old new size number place changes result = (ways : ℕ) (rowid low :
     → MatchResult result (λ done. IsLocal rowid high (with_changes (take done.0 changes))
     × IsPlanned old new size number 0 low high (with_changes (take done.0 changes) (rows_of 0 t)) (below_of 0 t) free done.1) IsOutsideOrFull
 
--- ---- a row that goes alone
+-- ---- a row that is changed alone
 
--- there is one change, and it takes its row out
-abbrev pub IsRemoval : List RowChange → Type 0
-IsRemoval [] = ⊥
-IsRemoval (change ∷ []) = change.payload ≡ None
-IsRemoval (change ∷ next ∷ changes) = ⊥
+-- there is one change
+abbrev pub IsOneChange : List RowChange → Type 0
+IsOneChange [] = ⊥
+IsOneChange (change ∷ []) = ⊤
+IsOneChange (change ∷ next ∷ changes) = ⊥
 
--- at `true` there is one change, which takes the leaf's row of this rowid out, and the leaf has the others; at `false` nothing has changed
+-- at `true` there is one change, and the leaf has its rows without the one of this rowid; at `false` nothing has changed
 abbrev pub IsTakenOff : PageMap → PageMap → ℕ → ℕ → ℤ → List RowChange → ℤ → Leaf → ℤ → List ℕ → Bool → Type 0
 IsTakenOff old new size number rowid changes low t high free false = new ≡ old
 IsTakenOff old new size number rowid changes low t high free true =
-    IsRemoval changes × IsPut old new size number 0 low high (without_row rowid (rows_of 0 t)) (pages_of 0 t) free
+    IsOneChange changes × IsPut old new size number 0 low high (without_row rowid (rows_of 0 t)) (pages_of 0 t) free
 
 -- where a leaf has the row of a rowid at a place, it is taken out, or nothing has changed; or memory was short, or a disk's call failed
 abbrev pub TakesRow : PageMap → PageMap → ℕ → ℕ → ℕ → List RowChange → Result Bool Fault → Type 0
 TakesRow old new size number place changes result = (ways : ℕ) (rowid low : ℤ) (t : Leaf) (high : ℤ) (free : List ℕ)
     → IsUnder old size number ways rowid 0 low t high free → place < length t.rows → ((d : Held) → (slice_index_or t.rows place d).row.rowid ≡ rowid)
     → MatchResult result (IsTakenOff old new size number rowid changes low t high free) IsOutside
+
+-- the rows with the one of this rowid, if the first change gives it a payload
+abbrev pub with_again : ℤ → List RowChange → List Entry → List Entry
+with_again rowid [] rows = rows
+with_again rowid (change ∷ changes) rows = elim change.payload [ None ↦ rows | Some payload ↦ with_row (record { rowid = rowid; payload = payload.items }) rows ]
+
+-- the leaf has that row too; or packed pages have to take its place
+abbrev pub IsPutAgain : PageMap → PageMap → ℕ → ℕ → ℕ → ℤ → List RowChange → ℤ → Leaf → ℤ → List ℕ → Change → Type 0
+IsPutAgain old new size number ways rowid changes low t high free Still = ⊥
+IsPutAgain old new size number ways rowid changes low t high free Same =
+    IsPut old new size number 0 low high (with_again rowid changes (rows_of 0 t)) (pages_of 0 t) free
+IsPutAgain old new size number ways rowid changes low t high free (Spread packed deep) =
+    IsDeep ways 0 deep × IsPlanned old new size number 0 low high (with_again rowid changes (rows_of 0 t)) (below_of 0 t) free packed
+
+-- where a leaf has no row of the rowid, and the place is that of the row, this becomes of it; or memory was short, a disk's call failed, or there
+-- are as many pages as there may be
+abbrev pub PutsAgain : PageMap → PageMap → ℕ → ℕ → ℕ → ℕ → ℤ → List RowChange → Result Change Fault → Type 0
+PutsAgain old new size number place ways rowid changes result = (low : ℤ) (t : Leaf) (high : ℤ) (free : List ℕ)
+    → IsUnder old size number ways rowid 0 low t high free → payload_at rowid (rows_of 0 t) ≡ None
+    → place ≡ below rowid (map (λ held. held.row.rowid) t.rows)
+    → MatchResult result (IsPutAgain old new size number ways rowid changes low t high free) IsOutsideOrFull
 
 -- ---- the tree
 

@@ -30,7 +30,7 @@ pub(crate) enum Change {
 
 /// Puts a row at a place of a leaf, where that has room for it; else answers the pages that the leaf gives way to. The row's payload is written, these
 /// pages aren't.
-fn leaf_with<P: WritePages>(
+pub(crate) fn leaf_with<P: WritePages>(
     alloc: Global,
     pages: &mut P,
     number: u32,

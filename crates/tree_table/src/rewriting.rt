@@ -21,7 +21,12 @@ fn rewrite(page: &mut Vec<u8>, start: usize, place: usize, change: &RowChange) -
 }
 
 /// Whether the row at the first of these places is as long as the first change has it: else the page needn't be copied to find out.
-fn begins_as_long(bytes: &[u8], start: usize, places: &[usize], changes: &[RowChange]) -> bool {
+pub(crate) fn begins_as_long(
+    bytes: &[u8],
+    start: usize,
+    places: &[usize],
+    changes: &[RowChange],
+) -> bool {
     let Ok(page) = TreePage::over(bytes, start) else {
         return false;
     };

@@ -5,16 +5,16 @@ ghost use Rattle.sqlval.specs.Faults.{IsNotDiskFault};
 ghost use Rattle.pages.specs.Calls.{Causes};
 ghost use Rattle.pages.specs.Counting as counting;
 ghost use Rattle.tree_page.specs.Node.{Local, Rows, IsNode};
-ghost use Rattle.tree_table.specs.Runs.{AppendsRow, ChangesBelow, ChangesLeaf, Exchanges, ExchangesLeaf, FindsPlace, FindsRun, FreesRun, IsFirst, IsRemoval, TakesRow, room_for, WritesRow, WritesRows};
+ghost use Rattle.tree_table.specs.Runs.{AppendsRow, ChangesBelow, ChangesLeaf, Exchanges, ExchangesLeaf, FindsPlace, FindsRun, FreesRun, IsOneChange, IsFirst, PutsAgain, TakesRow, room_for, WritesRow, WritesRows};
 ghost use Rattle.tree_table.specs.Stepping.{HasRowid};
 
 use crate::changing::RowChange;
 use crate::descending::{Step, look, step_from};
 use crate::freeing::free_row;
-use crate::growing::Change;
+use crate::growing::{Change, leaf_with};
 use crate::joining::narrowed;
 use crate::leaf::start_of;
-use crate::rewriting::rewritten;
+use crate::rewriting::{begins_as_long, rewritten};
 use pages::WritePages;
 use sqlval::{Damage, Fault, R};
 use std::alloc::Global;
@@ -310,18 +310,18 @@ fn changed_leaf<P: WritePages>(
     Ok((count, packed))
 }
 
-/// Whether there is one change alone, and it takes its row out.
-fn is_removal(changes: &[RowChange]) -> bool
-    ensures { IsTrue result → IsRemoval changes.now }
+/// Whether there is one change alone.
+fn is_one_change(changes: &[RowChange]) -> bool
+    ensures { IsTrue result → IsOneChange changes.now }
 {
     match changes {
-        [change] => change.payload.is_none(),
+        [_] => true,
         _ => false,
     }
 }
 
-/// Takes the row at a place off its leaf, without moving any other, where nothing but this is to be changed and the row lies whole on the leaf.
-/// Answers whether it did; if not, nothing changes. (What `load` and `take_off` refuse.)
+/// Takes the row at a place off its leaf, without moving any other, where its change is the only one and gives it no payload that is as long, and
+/// the row lies whole on the leaf. Answers whether it did; if not, nothing changes. (What `load` and `take_off` refuse.)
 fn taken_off<P: WritePages>(
     alloc: Global,
     pages: &mut P,
@@ -335,7 +335,7 @@ fn taken_off<P: WritePages>(
     ensures kept { P.Pages.below pages.new ≡ P.Pages.below pages.old }
     ensures causes { Causes result (P.Pages.failures pages.old) (P.Pages.failures pages.new) ⊥ }
 {
-    if !is_removal(changes) {
+    if !is_one_change(changes) {
         return Ok(false);
     }
     pages.load(number)?;
@@ -343,7 +343,40 @@ fn taken_off<P: WritePages>(
     if !are_short(pages.loaded(), number, &[place], most as u64) {
         return Ok(false);
     }
+    if begins_as_long(pages.loaded(), start_of(number), &[place], changes) {
+        return Ok(false);
+    }
     take_off(alloc, pages, number, place)
+}
+
+/// What becomes of a leaf that a row was taken off, when the row is put in again at its place with the payload that the first change gives it, if
+/// it gives one; `ways` as in `changed_below`. (What `leaf_with` refuses.)
+fn put_again<P: WritePages>(
+    alloc: Global,
+    pages: &mut P,
+    number: u32,
+    place: usize,
+    ways: u32,
+    rowid: i64,
+    changes: &[RowChange],
+) -> R<Change>
+    ensures put { IsTrue (P.Pages.tells (P.Pages.below pages.old))
+        → PutsAgain (P.Pages.map pages.old) (P.Pages.map pages.new)
+        (P.Pages.limits (P.Pages.below pages.old)).page number place ways rowid changes.now result }
+    ensures kept { P.Pages.below pages.new ≡ P.Pages.below pages.old }
+    ensures causes { Causes result (P.Pages.failures pages.old) (P.Pages.failures pages.new)
+        (P.Pages.count pages.new ≡ (P.Pages.limits (P.Pages.below pages.new)).most) }
+{
+    let Some((change, _)) = changes.split_first() else {
+        return Ok(Change::Same);
+    };
+    let Some(payload) = &change.payload else {
+        return Ok(Change::Same);
+    };
+    match leaf_with(alloc, pages, number, place, rowid, payload.as_slice())? {
+        Some(packed) => Ok(Change::Spread(packed, ways == 0)),
+        None => Ok(Change::Same),
+    }
 }
 
 /// What becomes of a page in whose tree the rows of a run are changed, the first of which has this rowid, where as many more pages as `ways`
@@ -369,7 +402,8 @@ pub(crate) fn changed_below<P: WritePages>(
     let (place, child) = match step_from(pages, number, rowid)? {
         Step::Found(place) => {
             if taken_off(alloc, pages, number, place, changes)? {
-                return Ok((1, Change::Same));
+                let change = put_again(alloc, pages, number, place, ways, rowid, changes)?;
+                return Ok((1, change));
             }
             let (count, packed) = changed_leaf(alloc, pages, number, place, changes)?;
             return Ok((count, Change::Spread(packed, ways == 0)));

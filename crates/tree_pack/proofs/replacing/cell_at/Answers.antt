@@ -27,6 +27,7 @@ returns-in-len2-up-clause-found c =
       there = there;
       long = ap (λ n. c.from-at.result + n) (cell_size _ page start place (length c.in-Ok-cell.cell.now) node is over there c.in-Ok-cell.cell.now c.in-Ok-cell.ensures.only refl);
       offset = offset_is (code_of node) page start (right_of node) is.cells is.page_is place c.from-at.result left there (ap (λ n. drop n page) (omega (arith, width))) at;
+      first_is = omega (arith, width);
       pointer_is = omega (arith, width);
       last_is = omega (arith, width, count);
       count_is = count;

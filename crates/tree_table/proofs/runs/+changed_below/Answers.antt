@@ -1,13 +1,16 @@
 use Rattle.std.proofs.Common.{◌≡◌, ◌-◌, ◌∙◌, ℕ, ℤ, suc, Bool, w64, to_z, of_z, take, IsTrue, Ok, Err, refl, sym, subst, arith}
 use Rattle.std.proofs.lemmas.Int.{to_z-of_z}
+use Rattle.std.specs.Prelude.{Result}
+use Rattle.sqlval.specs.declared.fault.Fault.{Fault}
 use Rattle.pages.specs.Map.{PageMap}
 use Rattle.tree_table.specs.Growing.{IsUnder, IsThereAt, Widens}
 use Rattle.tree_table.specs.Rows.{with_changes}
-use Rattle.tree_table.specs.Runs.{ChangesBelow, ChangesLeaf, IsNoRun, TakesRow}
+use Rattle.tree_table.specs.Runs.{ChangesBelow, ChangesLeaf, IsNoRun, PutsAgain, TakesRow}
 use Rattle.tree_table.specs.Stepping.{StepsFrom}
 use Rattle.tree_table.specs.declared.descending.Step.{Step}
 use Rattle.tree_table.specs.declared.growing.Change.{Change}
 use Rattle.tree_table.specs.declared.growing.Change.TheVariants.{Still, Same}
+use Rattle.tree_table.proofs.ComingAgain.{step_again}
 use Rattle.tree_table.proofs.Descents.{since, step_refused, step_cut, step_none, down_deep, down, down_spread}
 use Rattle.tree_table.proofs.Exits.{edited_ways, edited_or_ways, not_still, not_same}
 use Rattle.tree_table.proofs.RunMade.{below_refused}
@@ -46,9 +49,38 @@ returns-in_err-taken_off-in-Found-clause-changed g n c = λ told depth low t hig
     let mid = pages.map c.taken_off.new.pages in
     let takes = since pages.below pages.tells pages.limits pages.map old c.step_from.new.pages (λ (m : PageMap) (n : ℕ). TakesRow m mid n number place changes (Err c.in_err-taken_off-in-Found.field-0.0)) stays.kept stays.same
     c.in_err-taken_off-in-Found.ensures.taken told in
-    let taken = step_taken base mid size number c.args.ways place rowid depth low t high free under steps changes c.requires (Err c.in_err-taken_off-in-Found.field-0.0) takes in
+    let taken = step_taken base mid size number c.args.ways place rowid depth low t high free under steps changes (Err c.in_err-taken_off-in-Found.field-0.0) takes in
     below_refused base mid size number c.args.ways rowid changes c.from_residual-in_err-taken_off-in-Found.result c.in_err-taken_off-in-Found.field-0.0 c.from_residual-in_err-taken_off-in-Found.ensures.1
     taken depth low t high free)
+
+pub returns-in_err-change-in-Found-clause-changed : goal.returns-in_err-change-in-Found-clause-changed
+returns-in_err-change-in-Found-clause-changed g n c = λ told depth low t high free under.
+    (let pages = g.P.Pages in
+    let old = c.args.pages.now in
+    let base = pages.map old in
+    let size = (pages.limits (pages.below old)).page in
+    let rowid = c.args.rowid in
+    let number = c.args.number in
+    let place = c.in-Found.place in
+    let changes = c.args.changes.now in
+    let plain = to_z-of_z w64 c.args.rowid c.ranges.rowid in
+    let steps_any = subst (λ (z : ℤ). StepsFrom base size number z (Ok c.in_ok-place.field-0)) plain (c.in_ok-place.ensures.found told) in
+    let stays = c.in_ok-place.ensures.stays in
+    let steps = subst (λ (s : Step). StepsFrom base size number rowid (Ok s)) c.in-Found.is steps_any in
+    let mid = pages.map c.taken_off.new.pages in
+    let takes = since pages.below pages.tells pages.limits pages.map old c.step_from.new.pages (λ (m : PageMap) (n : ℕ). TakesRow m mid n number place changes (Ok c.in_ok-taken_off-in-Found.field-0)) stays.kept stays.same
+    c.in_ok-taken_off-in-Found.ensures.taken told in
+    let taken = step_taken base mid size number c.args.ways place rowid depth low t high free under steps changes (Ok c.in_ok-taken_off-in-Found.field-0) takes in
+    let gone = subst (λ (b : Bool). IsStepTaken base mid size number rowid changes depth low t high free b) c.if-branch.true taken in
+    let new = pages.map c.put_again.new.pages in
+    let kept = c.in_ok-taken_off-in-Found.ensures.kept ∙ stays.kept in
+    let told_mid = subst (λ k. IsTrue (pages.tells k)) (sym kept) told in
+    let answered : Result Change Fault = Err c.in_err-change-in-Found.field-0.0 in
+    let puts = subst (λ (z : ℤ). PutsAgain mid new size number place c.args.ways z changes answered) plain
+    (subst (λ k. PutsAgain mid new (pages.limits k).page number place c.args.ways (to_z w64 (of_z w64 rowid)) changes answered) kept (c.in_err-change-in-Found.ensures.put told_mid)) in
+    let again = step_again base mid new size number c.args.ways place rowid depth low t high free under steps changes c.requires gone answered puts in
+    below_refused base new size number c.args.ways rowid changes c.from_residual-in_err-change-in-Found.result c.in_err-change-in-Found.field-0.0 c.from_residual-in_err-change-in-Found.ensures.1
+    again depth low t high free)
 
 pub returns-then-branch-clause-changed : goal.returns-then-branch-clause-changed
 returns-then-branch-clause-changed g n c = λ told depth low t high free under.
@@ -67,8 +99,16 @@ returns-then-branch-clause-changed g n c = λ told depth low t high free under.
     let mid = pages.map c.taken_off.new.pages in
     let takes = since pages.below pages.tells pages.limits pages.map old c.step_from.new.pages (λ (m : PageMap) (n : ℕ). TakesRow m mid n number place changes (Ok c.in_ok-taken_off-in-Found.field-0)) stays.kept stays.same
     c.in_ok-taken_off-in-Found.ensures.taken told in
-    let taken = step_taken base mid size number c.args.ways place rowid depth low t high free under steps changes c.requires (Ok c.in_ok-taken_off-in-Found.field-0) takes in
-    subst (λ (b : Bool). IsStepTaken base mid size number c.args.ways rowid changes depth low t high free b) c.if-branch.true taken)
+    let taken = step_taken base mid size number c.args.ways place rowid depth low t high free under steps changes (Ok c.in_ok-taken_off-in-Found.field-0) takes in
+    let gone = subst (λ (b : Bool). IsStepTaken base mid size number rowid changes depth low t high free b) c.if-branch.true taken in
+    let new = pages.map c.put_again.new.pages in
+    let kept = c.in_ok-taken_off-in-Found.ensures.kept ∙ stays.kept in
+    let told_mid = subst (λ k. IsTrue (pages.tells k)) (sym kept) told in
+    let answered : Result Change Fault = Ok c.in_ok-change-in-Found.change in
+    let puts = subst (λ (z : ℤ). PutsAgain mid new size number place c.args.ways z changes answered) plain
+    (subst (λ k. PutsAgain mid new (pages.limits k).page number place c.args.ways (to_z w64 (of_z w64 rowid)) changes answered) kept (c.in_ok-change-in-Found.ensures.put told_mid)) in
+    let again = step_again base mid new size number c.args.ways place rowid depth low t high free under steps changes c.requires gone answered puts in
+    again)
 
 pub returns-in_err-count-in-Found-clause-changed : goal.returns-in_err-count-in-Found-clause-changed
 returns-in_err-count-in-Found-clause-changed g n c = λ told depth low t high free under.
@@ -87,8 +127,8 @@ returns-in_err-count-in-Found-clause-changed g n c = λ told depth low t high fr
     let mid = pages.map c.taken_off.new.pages in
     let takes = since pages.below pages.tells pages.limits pages.map old c.step_from.new.pages (λ (m : PageMap) (n : ℕ). TakesRow m mid n number place changes (Ok c.in_ok-taken_off-in-Found.field-0)) stays.kept stays.same
     c.in_ok-taken_off-in-Found.ensures.taken told in
-    let taken = step_taken base mid size number c.args.ways place rowid depth low t high free under steps changes c.requires (Ok c.in_ok-taken_off-in-Found.field-0) takes in
-    let same = subst (λ (b : Bool). IsStepTaken base mid size number c.args.ways rowid changes depth low t high free b) c.if-branch.false taken in
+    let taken = step_taken base mid size number c.args.ways place rowid depth low t high free under steps changes (Ok c.in_ok-taken_off-in-Found.field-0) takes in
+    let same = subst (λ (b : Bool). IsStepTaken base mid size number rowid changes depth low t high free b) c.if-branch.false taken in
     let new = pages.map c.changed_leaf.new.pages in
     let kept = c.in_ok-taken_off-in-Found.ensures.kept ∙ stays.kept in
     let cuts = since pages.below pages.tells pages.limits pages.map old c.taken_off.new.pages (λ (m : PageMap) (n : ℕ). ChangesLeaf m new n number place changes (Err c.in_err-count-in-Found.field-0.0)) kept same
@@ -113,8 +153,8 @@ returns-in-Found-clause-changed g n c = λ told depth low t high free under.
     let mid = pages.map c.taken_off.new.pages in
     let takes = since pages.below pages.tells pages.limits pages.map old c.step_from.new.pages (λ (m : PageMap) (n : ℕ). TakesRow m mid n number place changes (Ok c.in_ok-taken_off-in-Found.field-0)) stays.kept stays.same
     c.in_ok-taken_off-in-Found.ensures.taken told in
-    let taken = step_taken base mid size number c.args.ways place rowid depth low t high free under steps changes c.requires (Ok c.in_ok-taken_off-in-Found.field-0) takes in
-    let same = subst (λ (b : Bool). IsStepTaken base mid size number c.args.ways rowid changes depth low t high free b) c.if-branch.false taken in
+    let taken = step_taken base mid size number c.args.ways place rowid depth low t high free under steps changes (Ok c.in_ok-taken_off-in-Found.field-0) takes in
+    let same = subst (λ (b : Bool). IsStepTaken base mid size number rowid changes depth low t high free b) c.if-branch.false taken in
     let new = pages.map c.changed_leaf.new.pages in
     let kept = c.in_ok-taken_off-in-Found.ensures.kept ∙ stays.kept in
     let cuts = since pages.below pages.tells pages.limits pages.map old c.taken_off.new.pages (λ (m : PageMap) (n : ℕ). ChangesLeaf m new n number place changes (Ok (c.in_ok-count-in-Found.count, c.in_ok-count-in-Found.packed))) kept same

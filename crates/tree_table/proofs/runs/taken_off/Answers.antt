@@ -29,4 +29,4 @@ returns-clause-taken g c = λ told ways rowid low t high free under lt same.
     let most : c.saturating_sub-most.result ≡ table_most size = c.saturating_sub-most.ensures ∙ ap (λ (n : ℕ). n - 35) c.page_size.ensures ∙ ap (λ k. (gs.limits k).page - 35) stays.kept in
     let short = short_row old size number ways rowid low t high free under place lt same c.loaded.result.now c.saturating_sub-most.result read most (c.are_short.ensures c.if-not-are_short.false) in
     let takes = since gs.below gs.tells gs.limits gs.map pages c.load.new.self (λ (m : PageMap) (n : ℕ). TakesOff m new n number place c.take_off.result) stays.kept stays.same c.take_off.ensures.taken told in
-    row_taken old size number ways rowid low t high free under place lt same short c.args.changes.now (c.is_removal.ensures c.if-not-is_removal.false) new c.take_off.result takes)
+    row_taken old size number ways rowid low t high free under place lt same short c.args.changes.now (c.is_one_change.ensures c.if-not-is_one_change.false) new c.take_off.result takes)
