@@ -22,6 +22,7 @@ use query_answer::{
     rows_are_loaded_beside_conditions, search_at, searches_as_scans,
 };
 use query_bind::{BoundReading, bind_reading};
+use query_filter::Filter;
 use query_names::{BoundSource, Origin, Reading, sources_are_known, views_are_known};
 use query_terms::SourceRow;
 use row_scan::{Rows, next_source_rows, rows_are_held, source_rows};
@@ -89,13 +90,14 @@ fn streamed_rows<P: Pages>(
 {
     rows_are_given_in_parts();
     rows_are_held();
+    let filter = Filter::new(alloc, &reading.filter)?;
     let mut found = GivenRows::new(alloc);
     let mut rows = Many::new(alloc);
     let mut batch = Batch::new(alloc);
     let mut cursor = Cursor::new(table.root);
     'leaves: while cursor.next.is_some() {
         rows = next_source_rows(alloc, pages, &mut cursor, &mut batch, table.shape.own, rows)?;
-        give_rows(alloc, reading, &rows, &mut found)?;
+        give_rows(alloc, reading, &filter, &rows, &mut found)?;
     }
     finish(alloc, reading, found)
 }

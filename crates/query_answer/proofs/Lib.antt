@@ -4,7 +4,6 @@ pub mod Firsts
 pub mod Flows
 pub mod Given
 pub mod GroupRows
-pub mod Halves
 pub mod InOrder
 pub mod Items
 pub mod Kept

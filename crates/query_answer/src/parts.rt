@@ -5,12 +5,13 @@ ghost use Rattle.sqlval.specs.Faults.{IsNotDiskFault};
 ghost use Rattle.query_terms.specs.Outcome.{AnswersBy};
 ghost use Rattle.query_terms.specs.Rows.{picked_rows};
 ghost use Rattle.query_terms.specs.Values.{Row};
-ghost use Rattle.query_answer.specs.Nesting.{all_found, onto, shown};
+ghost use Rattle.query_answer.specs.Nesting.{all_found, filtered_by, onto, shown};
 ghost use Rattle.query_answer.specs.Parts as meant;
 ghost use Rattle.query_answer.specs.Parts.{GiveNone, StayRefused, given_of, of_row, of_rows};
 
 use crate::nesting::{Loops, condition_of, is_left, joins};
 use crate::results::{FoundRow, give};
+use query_filter::Filter;
 use query_names::{Condition, Reading};
 use query_terms::SourceRow;
 use sqlval::{Fault, Many, Misuse, Name, R};
@@ -74,7 +75,7 @@ fn give_row(
 ) -> R<()>
     ensures { AnswersBy (λ u. all_found loops.entry.sources.now found.new.items)
         (onto (all_found loops.entry.sources.now found.old.items)
-        (of_row loops.entry.reading.now condition.now
+        (of_row (filtered_by loops.entry.filter.now loops.entry.reading.now) condition.now
         (picked_rows loops.entry.sources.now (index ∷ [])))) result }
 {
     let picked = [index];
@@ -95,7 +96,8 @@ fn give_each(
     requires { loops.sources.now ≡ rows.now ∷ [] }
     ensures { AnswersBy (λ u. all_found loops.entry.sources.now found.new.items)
         (onto (all_found loops.entry.sources.now found.old.items)
-        (of_rows loops.entry.reading.now condition.now rows.now)) result }
+        (of_rows (filtered_by loops.entry.filter.now loops.entry.reading.now) condition.now
+        rows.now)) result }
 {
     'rows: for index in 0..rows.len() {
         give_row(alloc, loops, condition, index, found)?;
@@ -104,7 +106,12 @@ fn give_each(
 }
 
 /// A query over these rows of its only source.
-fn loops_over<'a>(reading: &'a Reading, rows: &'a Many<SourceRow>) -> Loops<'a>
+fn loops_over<'a>(
+    reading: &'a Reading,
+    filter: &'a Filter<'a>,
+    rows: &'a Many<SourceRow>,
+) -> Loops<'a>
+    ensures filter { result.filter.now ≡ filter.now }
     ensures reading { result.reading.now ≡ reading.now }
     ensures sources { result.sources.now ≡ rows.now ∷ [] }
 {
@@ -113,6 +120,7 @@ fn loops_over<'a>(reading: &'a Reading, rows: &'a Many<SourceRow>) -> Loops<'a>
         sources: from_ref(rows).as_slice(),
         outer: &[],
         lookups: &[],
+        filter,
     }
 }
 
@@ -120,28 +128,30 @@ fn loops_over<'a>(reading: &'a Reading, rows: &'a Many<SourceRow>) -> Loops<'a>
 fn give_part(
     alloc: Global,
     reading: &Reading,
+    filter: &Filter<'_>,
     rows: &Many<SourceRow>,
     found: &mut Vec<FoundRow>,
 ) -> R<()>
     requires { meant.is_row_by_row reading.now ≡ true }
-    ensures given { (before : List Row) → given_of reading.now before ≡ Ok (map shown found.old.items)
+    ensures given { filter.now ≡ reading.now.filter → (before : List Row) → given_of reading.now before ≡ Ok (map shown found.old.items)
         → AnswersBy (λ u. map shown found.new.items) (given_of reading.now (before ++ rows.now)) result }
     ensures not_disk { IfErr result IsNotDiskFault }
 {
     let condition = condition_of(reading.sources.as_slice(), 0);
-    let loops = loops_over(reading, rows);
+    let loops = loops_over(reading, filter, rows);
     give_each(alloc, loops, condition, rows.as_slice(), found)
 }
 
-/// Adds what a query gives of these rows of its only source to what it gave of those before them; or the first refusal of these.
-/// A query that isn't row by row is refused.
+/// Adds what a query, with its WHERE prepared, gives of these rows of its only source to what it gave of those before them; or the first
+/// refusal of these. A query that isn't row by row is refused.
 pub fn give_rows(
     alloc: Global,
     reading: &Reading,
+    filter: &Filter<'_>,
     rows: &Many<SourceRow>,
     found: &mut GivenRows,
 ) -> R<()>
-    ensures given { meant.is_row_by_row reading.now ≡ true → (before : List Row)
+    ensures given { meant.is_row_by_row reading.now ≡ true → filter.now ≡ reading.now.filter → (before : List Row)
         → given_of reading.now before ≡ Ok found.old
         → AnswersBy (λ u. found.new) (given_of reading.now (before ++ rows.now)) result }
     ensures not_disk { IfErr result IsNotDiskFault }
@@ -149,7 +159,7 @@ pub fn give_rows(
     if !is_row_by_row(reading) {
         return Err(Fault::Misuse(Misuse::Count));
     }
-    give_part(alloc, reading, rows, &mut found.rows)
+    give_part(alloc, reading, filter, rows, &mut found.rows)
 }
 
 /// What a query that is row by row gives of no rows, and what is refused of some rows of its source.

@@ -5,12 +5,12 @@ ghost use Rattle.query_terms.specs.Outcome.{AnswersBy};
 ghost use Rattle.query_terms.specs.Rows.{picked_rows, seen};
 ghost use Rattle.query_names.specs.Readings as meant;
 ghost use Rattle.query_names.specs.Readings.{env_of};
-ghost use Rattle.query_answer.specs.Nesting.{all_found, at_leaf, found_of, grouped_row, kept_row, onto, passing, shown};
+ghost use Rattle.query_answer.specs.Nesting.{all_found, at_leaf, filtered_by, found_of, grouped_row, kept_row, onto, shown};
 
 use crate::arguments::check_arguments;
 use crate::nesting::Loops;
 use query_names::Reading;
-use query_terms::{Env, RowPlaces, Term, evaluate, holds};
+use query_terms::{Env, RowPlaces, Term, evaluate};
 use sqlval::{Many, R, Value};
 use std::alloc::Global;
 
@@ -94,23 +94,14 @@ fn kept_row(alloc: Global, loops: Loops<'_>, picked: &[usize]) -> R<FoundRow>
     }
 }
 
-/// Whether WHERE keeps the rows.
-fn passes(alloc: Global, filter: &Option<Term>, env: Env<'_>) -> R<bool>
-    ensures { AnswersBy (λ b. b) (passing filter.now (seen env.entry)) result }
-{
-    match filter {
-        Some(term) => Ok(holds(alloc, term, env)?.unwrap_or(false)),
-        None => Ok(true),
-    }
-}
-
 /// What is kept of the rows that are picked, where WHERE keeps them.
 pub fn give(alloc: Global, loops: Loops<'_>, picked: &[usize], found: &mut Vec<FoundRow>) -> R<()>
     ensures { AnswersBy (λ u. all_found loops.entry.sources.now found.new.items)
         (onto (all_found loops.entry.sources.now found.old.items)
-        (at_leaf loops.entry.reading.now (picked_rows loops.entry.sources.now picked.now))) result }
+        (at_leaf (filtered_by loops.entry.filter.now loops.entry.reading.now)
+        (picked_rows loops.entry.sources.now picked.now))) result }
 {
-    if passes(alloc, &loops.reading.filter, loops.env(picked))? {
+    if loops.filter.passes(alloc, loops.env(picked))? {
         found.push(kept_row(alloc, loops, picked)?)?;
     }
     Ok(())

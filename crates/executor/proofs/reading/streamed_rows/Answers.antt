@@ -16,7 +16,7 @@ pub returns-in_err-rows-clause-answered : goal.returns-in_err-rows-clause-answer
 returns-in_err-rows-clause-answered g c = λ told.
     (let gs = g.P.Pages in
     leaf_unread gs.below gs.tells gs.limits gs.map gs.count gs.failures c.args.pages.now c.leaves.pages c.args.reading.now c.args.table c.leaves.cursor.root c.leaves.cursor.next c.next_source_rows.new.cursor.next c.leaves.found
-    c.leaves.invariant (λ rows. map values_of rows.items) c.in_err-rows.field-0.0 c.from_residual.result c.rows_are_held.ensures c.from_residual.ensures.1 c.in_err-rows.ensures.given told)
+    c.leaves.invariant (λ rows. map values_of rows.items) c.in_err-rows.field-0.0 c.from_residual-in_err-rows.result c.rows_are_held.ensures c.from_residual-in_err-rows.ensures.1 c.in_err-rows.ensures.given told)
 
 pub leaves-preserved : goal.leaves-preserved
 leaves-preserved g c =
@@ -24,14 +24,14 @@ leaves-preserved g c =
     let stays : Stays gs.below gs.map gs.count gs.failures {T = ⊤} (Ok tt) c.args.pages.now c.next_source_rows.new.pages = search rules in
     leaf_streamed gs.below gs.tells gs.limits gs.map gs.count gs.failures c.args.pages.now c.leaves.pages c.args.reading.now c.args.table c.leaves.cursor.root c.leaves.cursor.next c.next_source_rows.new.cursor.next c.leaves.found
     c.leaves.invariant c.in_ok-rows.rows c.in_ok-rows.ensures.given c.next_source_rows.new.pages c.next_source_rows.new.cursor.root c.give_rows.new.found
-    c.in_ok-rows.ensures.root stays (c.in_ok-give_rows.ensures.given c.requires)
+    c.in_ok-rows.ensures.root stays (c.in_ok-give_rows.ensures.given c.requires c.in_ok-filter.ensures.prepared)
 
 pub returns-in_err-give_rows-clause-answered : goal.returns-in_err-give_rows-clause-answered
 returns-in_err-give_rows-clause-answered g c = λ told.
     (let gs = g.P.Pages in
     leaf_refused gs.below gs.tells gs.limits gs.map gs.count gs.failures c.args.pages.now c.leaves.pages c.args.reading.now c.args.table c.leaves.cursor.root c.leaves.cursor.next c.next_source_rows.new.cursor.next c.leaves.found
     c.leaves.invariant c.in_ok-rows.rows c.in_ok-rows.ensures.given (λ rows. map values_of rows.items) c.in_err-give_rows.field-0.0 c.from_residual-in_err-give_rows.result c.rows_are_held.ensures
-    c.rows_are_given_in_parts.ensures.refused c.requires c.from_residual-in_err-give_rows.ensures.1 (c.in_err-give_rows.ensures.given c.requires) told)
+    c.rows_are_given_in_parts.ensures.refused c.requires c.from_residual-in_err-give_rows.ensures.1 (c.in_err-give_rows.ensures.given c.requires c.in_ok-filter.ensures.prepared) told)
 
 pub returns-clause-answered : goal.returns-clause-answered
 returns-clause-answered g c = λ told.

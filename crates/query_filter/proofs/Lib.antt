@@ -1,0 +1,3 @@
+pub mod AmongPlain
+pub mod Halves
+pub mod Parts

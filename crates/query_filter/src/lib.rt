@@ -1,0 +1,9 @@
+//! WHERE, prepared once for all rows of a query.
+#![tactic(auto)]
+
+mod filter;
+mod literals;
+mod members;
+mod sides;
+
+pub use filter::Filter;
