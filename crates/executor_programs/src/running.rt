@@ -212,7 +212,9 @@ fn change_rows<P: WritePages>(
         (P.Pages.limits (P.Pages.below pages.old)).page (listed_in run.entry.catalog.now) (aim_of c).target first
         → Runs (P.Pages.map pages.old) (P.Pages.map pages.new) (P.Pages.limits (P.Pages.below pages.old)).page
         (listed_in run.entry.catalog.now)
-        (λ db. fold_answer (λ db i. row_changed (fired (programs run.entry.room) (running_names running.old.items)) seen c act.now i db) db items.now) result }
+        (λ db. fold_answer (λ db i.
+        row_changed (fired (programs run.entry.room) (running_names running.old.items)) seen c act.now i db)
+        db items.now) result }
     ensures running { OnOk result (running.new.items ≡ running.old.items) }
     ensures kept { P.Pages.below pages.new ≡ P.Pages.below pages.old }
     ensures causes { Causes result (P.Pages.failures pages.old) (P.Pages.failures pages.new)
