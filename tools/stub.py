@@ -13,8 +13,9 @@ import sys
 from pathlib import Path
 
 ROOT = Path(__file__).resolve().parent.parent
-# A function with its documentation and attributes, and the lines between which its body stands.
-FUNCTION = re.compile(r"^((?:(?:///|#\[)[^\n]*\n)*)(pub )?(?:pub\(crate\) )?fn (\w+).*?^(\{\}|\{\n.*?^\})\n\n?", re.M | re.S)
+# A function with its documentation and attributes, and the lines between which its body stands: after clauses they begin a line, without clauses they end
+# the function's first.
+FUNCTION = re.compile(r"^((?:(?:///|#\[)[^\n]*\n)*)(pub )?(?:pub\(crate\) )?fn (\w+)(?:[^{}]*? (?=\{\n)|.*?^)(\{\}|\{\n.*?^\})\n\n?", re.M | re.S)
 STUB = "{\n    Err(Fault::Memory)\n}\n\n"
 
 
@@ -23,12 +24,13 @@ def refuses(head):
 
 
 def kept_names(texts):
-    """The functions that stay as they are: public ones that refuse nothing, and private ones that these call."""
+    """The functions that stay as they are: public ones that refuse nothing, and private ones that these, or methods, call."""
     found = {name: (is_public, head + body, head) for text in texts for head, is_public, name, body in parts(text)}
     kept = {name for name, (is_public, _, head) in found.items() if is_public and not refuses(head)}
     reached = kept
+    others = [FUNCTION.sub("", text) for text in texts]
     while reached:
-        called = {word for name in reached for word in re.findall(r"\b[a-z_0-9]+\b", found[name][1])}
+        called = {word for text in [*others, *(found[name][1] for name in reached)] for word in re.findall(r"\b([a-z_0-9]+)\(", text)}
         reached = {name for name in called & set(found) if not found[name][0]} - kept
         kept |= reached
     return kept, {name for name, (is_public, _, _) in found.items() if not is_public} - kept
@@ -55,7 +57,7 @@ def stub(text, kept, gone):
         return f"use crate::{path}{{{', '.join(left)}}};\n" if left else ""
 
     text = re.sub(r"^use crate::((?:\w+::)*)(\w+|\{[^}]*\});\n", imported, FUNCTION.sub(turned, text), flags=re.M)
-    return re.sub(r"^use sqlval::(?!.*\bFault\b)\{?([^;}]*)\}?;", r"use sqlval::{Fault, \1};", text, flags=re.M)
+    return re.sub(r"^use sqlval::(?![^;]*\bFault\b)\{?([^;}]*)\}?;", r"use sqlval::{Fault, \1};", text, flags=re.M)
 
 
 def main():
