@@ -1,3 +1,4 @@
+pub mod NameEnds
 pub mod Ordering
 pub mod PageSizeLemmas
 pub mod NumberLemmas
