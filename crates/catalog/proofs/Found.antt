@@ -3,6 +3,9 @@ use Rattle.std.proofs.Common.{◌≡◌, inl, inr, refl, sym, ap, subst, ◌∙�
 use Rattle.std.specs.Prelude.{flat_map, is_some, option_map, MatchOption, ◌||◌}
 use Rattle.std.specs.List as list
 use Rattle.std.specs.List.{list_any}
+use Rattle.std.specs.declared.alloc.Global.{Global}
+use Rattle.std.specs.declared.rc.Rc.{Rc}
+use denote.Ref.{Bor}
 use Rattle.sqlval.specs.Names.{is_same_name}
 use Rattle.sqlval.specs.declared.value.Value.{Value}
 use Rattle.catalog.specs.Database.{Name, Object, ATable, AnIndex, AView, ATrigger, object}
@@ -166,11 +169,23 @@ either false b true d = with_true b
     with_true false = refl
 either false b false d = refl
 
-any_either : (name : Name) (tables : List Table) → list_any (has_table_name name) tables ≡ (list_any (is_table name) tables || list_any (has_index name) tables)
+-- a name of a table or of an index is one of the first or one of the second
+pub any_either : (name : Name) (tables : List Table) → list_any (has_table_name name) tables ≡ (list_any (is_table name) tables || list_any (has_index name) tables)
 any_either name [] = refl
 any_either name (t ∷ ts) =
     ap (λ b. (is_table name t || has_index name t) || b) (any_either name ts)
     ∙ either (is_table name t) (has_index name t) (list_any (is_table name) ts) (list_any (has_index name) ts)
+
+value_some : (found : Option (Bor (Rc Table Global))) → is_some found ≡ is_some (option_map (λ (t : Bor (Rc Table Global)). t.now.value) found)
+value_some None = refl
+value_some (Some t) = refl
+
+-- a name of a table or of an index, by the table that was looked for
+pub any_found : (name : Name) (tables : List Table) (found : Option (Bor (Rc Table Global))) (b : Bool) → b ≡ is_some found
+    → option_map (λ (t : Bor (Rc Table Global)). t.now.value) found ≡ table_named name tables
+    → list_any (has_table_name name) tables ≡ (b || list_any (has_index name) tables)
+any_found name tables found b some is =
+    any_either name tables ∙ sym (ap (λ it. it || list_any (has_index name) tables) (some ∙ value_some found ∙ ap is_some is ∙ table_any name tables))
 
 found_or_behind : (rows_at : ℕ → List (ℤ × List Value)) (behind : Option Object) (found : Option Table) → is_some (as_object rows_at behind found) ≡ (is_some found || is_some behind)
 found_or_behind rows_at behind None = refl

@@ -1,5 +1,6 @@
 -- Tables and views that handles share.
-use Rattle.std.specs.Prelude.{◌≡◌, refl, Bool, true, false, List, [], ◌∷◌, Option, Some, option_map, if◌then◌else◌, ◌||◌}
+use Rattle.std.specs.Prelude.{◌≡◌, refl, Bool, true, false, List, [], ◌∷◌, Option, None, Some, option_map, if◌then◌else◌, ◌||◌}
+use denote.Ref.{Bor}
 use Rattle.std.specs.declared.alloc.Global.{Global}
 use Rattle.std.specs.declared.rc.Rc.{Rc}
 use Rattle.std.specs.List.{find, list_any}
@@ -26,3 +27,8 @@ shared_any {A} p (handle ∷ handles) = by_test (p handle.value) (shared_any p h
         → (b || list_any (λ (handle : Rc A Global). p handle.value) handles) ≡ (b || list_any p (shared handles))
     by_test true e = refl
     by_test false e = e
+
+-- what a handle that was found shares
+pub found_value : {A : Type 0} (r : Option (Bor (Rc A Global))) → option_map (λ (t : Bor (Rc A Global)). t.now.value) r ≡ option_map handle_value (option_map (λ (t : Bor (Rc A Global)). t.now) r)
+found_value None = refl
+found_value (Some t) = refl

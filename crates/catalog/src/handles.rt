@@ -1,6 +1,6 @@
 //! Handles to tables, views and triggers, which catalogs share.
 
-ghost use Rattle.std.specs.Prelude.{◌≡◌, IfOk, IfErr, OnOk, option_map};
+ghost use Rattle.std.specs.Prelude.{◌≡◌, IfOk, IfErr, OnErr, OnOk, option_map};
 ghost use Rattle.std.specs.List.{find, insert, list_any};
 ghost use Rattle.catalog.specs.Listed as listed;
 
@@ -21,10 +21,11 @@ pub(crate) fn handles_copy<T: Drop>(alloc: Global, handles: &[Rc<T>]) -> R<Vec<R
     Ok(copy)
 }
 
-/// Puts a handle at a place, or after the last where there are fewer. (`Memory` alone.)
+/// Puts a handle at a place, or after the last where there are fewer. An `Err` changes nothing. (`Memory` alone.)
 pub(crate) fn put_at(tables: &mut Vec<Rc<Table>>, place: usize, table: Rc<Table>) -> R<()>
     ensures added { OnOk result (listed.shared tables.new.items ≡ insert
         (listed.shared tables.old.items) place table.value) }
+    ensures unchanged { OnErr result (listed.shared tables.new.items ≡ listed.shared tables.old.items) }
     ensures refused { IfErr result (λ fault. fault ≡ Fault.Memory) }
 {
     let end = tables.as_slice().len();
@@ -57,13 +58,6 @@ pub(crate) fn has_index(table: &Table, name: &str) -> bool
         .any(|index| index.name.is_same(name))
 }
 
-/// Whether a table or one of its indexes has a name.
-pub(crate) fn has_name(table: &Table, name: &str) -> bool
-    ensures { result ≡ listed.has_table_name name.now table.now }
-{
-    table.name.is_same(name) || has_index(table, name)
-}
-
 /// The first handle to a view of a name.
 pub(crate) fn view_handle_named<'a>(views: &'a [Rc<View>], name: &str) -> Option<&'a Rc<View>>
     ensures { option_map (λ v. v.now) result ≡ find (listed.is_shared_view name.now) views.now }
@@ -78,11 +72,11 @@ pub(crate) fn is_view_named(views: &[Rc<View>], name: &str) -> bool
     views.iter().any(|view| view.definition.name.is_same(name))
 }
 
-/// Whether one of the tables or of their indexes has a name.
-pub(crate) fn is_named(tables: &[Rc<Table>], name: &str) -> bool
-    ensures { result ≡ list_any (listed.is_shared_named name.now) tables.now }
+/// Whether one of the tables has an index of a name.
+pub(crate) fn is_index_named(tables: &[Rc<Table>], name: &str) -> bool
+    ensures { result ≡ list_any (listed.has_index_shared name.now) tables.now }
 {
-    tables.iter().any(|table| has_name(table, name))
+    tables.iter().any(|table| has_index(table, name))
 }
 
 /// A handle to the new table, if the other has its name, or else to the other. (`Memory` alone.)
@@ -95,6 +89,38 @@ pub(crate) fn replaced_by(table: &Rc<Table>, new: &Rc<Table>) -> R<Rc<Table>>
     } else {
         Ok(table.clone()?)
     }
+}
+
+/// Handles to the tables, with the new one in place of those of its name. (`Memory` alone.)
+pub(crate) fn handles_replaced(
+    alloc: Global,
+    tables: &[Rc<Table>],
+    new: &Rc<Table>,
+) -> R<Vec<Rc<Table>>>
+    ensures replaced { IfOk result (λ replaced. listed.shared replaced.items
+        ≡ listed.with_replaced new.now.value (listed.shared tables.now)) }
+    ensures refused { IfErr result (λ fault. fault ≡ Fault.Memory) }
+{
+    let mut replaced = Vec::with_capacity(alloc, tables.len())?;
+    'tables: for table in tables {
+        replaced.push(replaced_by(table, new)?)?;
+    }
+    Ok(replaced)
+}
+
+/// Handles to the tables that don't have this name. (`Memory` alone.)
+pub(crate) fn other_handles(alloc: Global, tables: &[Rc<Table>], name: &str) -> R<Vec<Rc<Table>>>
+    ensures left { IfOk result (λ left. listed.shared left.items
+        ≡ listed.without_table name.now (listed.shared tables.now)) }
+    ensures refused { IfErr result (λ fault. fault ≡ Fault.Memory) }
+{
+    let mut left = Vec::new(alloc);
+    'tables: for table in tables {
+        if !table.name.is_same(name) {
+            left.push(table.clone()?)?;
+        }
+    }
+    Ok(left)
 }
 
 /// The first handle to a trigger of a name.

@@ -7,7 +7,8 @@ ghost use Rattle.catalog.specs.Named as named;
 ghost use Rattle.catalog.specs.NewIndexes as indexes;
 ghost use Rattle.catalog.specs.NewViews as views;
 
-use crate::handles::{handles_copy, put_at, replaced_by, triggers_elsewhere};
+use crate::by_name::Tables;
+use crate::handles::{handles_copy, triggers_elsewhere};
 use crate::tables::{Catalog, Table, Trigger, View};
 use sqlval::{Fault, Name, R};
 use std::alloc::Global;
@@ -72,8 +73,8 @@ impl Catalog {
             ≡ record (listed.listed_in self.now) { tables = insert (listed.tables_of self.now) place table }) }
         ensures refused { IfErr result (λ fault. fault ≡ Fault.Memory) }
     {
-        let mut tables = handles_copy(alloc, self.tables.as_slice())?;
-        put_at(&mut tables, place, Rc::new(alloc, table)?)?;
+        let mut tables = self.tables.copy(alloc)?;
+        tables.put(place, Rc::new(alloc, table)?)?;
         self.of_tables(alloc, tables)
     }
 
@@ -84,11 +85,7 @@ impl Catalog {
         ensures refused { IfErr result (λ fault. fault ≡ Fault.Memory) }
     {
         let new = Rc::new(alloc, table)?;
-        let mut tables = Vec::with_capacity(alloc, self.tables.len())?;
-        'tables: for table in self.tables.as_slice() {
-            let kept = replaced_by(table, &new)?;
-            tables.push(kept)?;
-        }
+        let tables = self.tables.replacing(alloc, &new)?;
         self.of_tables(alloc, tables)
     }
 
@@ -97,12 +94,7 @@ impl Catalog {
         ensures left { IfOk result (λ catalog. listed.listed_in catalog ≡ named.less_table name.now (listed.listed_in self.now)) }
         ensures refused { IfErr result (λ fault. fault ≡ Fault.Memory) }
     {
-        let mut tables = Vec::new(alloc);
-        'tables: for table in self.tables.as_slice() {
-            if !table.name.is_same(name.as_str()) {
-                tables.push(table.clone()?)?;
-            }
-        }
+        let tables = self.tables.without(alloc, name.as_str())?;
         let views = handles_copy(alloc, self.views.as_slice())?;
         let triggers = triggers_elsewhere(alloc, self.triggers.as_slice(), name)?;
         Ok(Catalog {
@@ -123,7 +115,7 @@ impl Catalog {
             ≡ record (listed.listed_in self.now) { views = listed.shared views.items; triggers = listed.shared triggers.items }) }
         ensures refused { IfErr result (λ fault. fault ≡ Fault.Memory) }
     {
-        let tables = handles_copy(alloc, self.tables.as_slice())?;
+        let tables = self.tables.copy(alloc)?;
         Ok(Catalog {
             tables,
             views,
@@ -132,9 +124,9 @@ impl Catalog {
     }
 
     /// A catalog of these tables, with the views and triggers of this one. (`Memory` alone.)
-    fn of_tables(&self, alloc: Global, tables: Vec<Rc<Table>>) -> R<Catalog>
+    fn of_tables(&self, alloc: Global, tables: Tables) -> R<Catalog>
         ensures of { IfOk result (λ catalog. listed.listed_in catalog
-            ≡ record (listed.listed_in self.now) { tables = listed.shared tables.items }) }
+            ≡ record (listed.listed_in self.now) { tables = tables }) }
         ensures refused { IfErr result (λ fault. fault ≡ Fault.Memory) }
     {
         let views = handles_copy(alloc, self.views.as_slice())?;

@@ -1,13 +1,19 @@
-use Rattle.std.proofs.Common.{◌∙◌, ap, List}
-use Rattle.std.specs.declared.alloc.Global.{Global}
-use Rattle.std.specs.declared.rc.Rc.{Rc}
+use Rattle.std.proofs.Common.{◌∙◌, ap, sym}
+use Rattle.std.specs.Prelude.{◌||◌}
 use Rattle.std.specs.List.{list_any}
-use Rattle.catalog.specs.Listed.{has_table_name, shared}
-use Rattle.catalog.specs.declared.tables.Table.{Table}
+use Rattle.catalog.specs.Listed.{has_index, tables_of}
+use Rattle.catalog.proofs.Found.{any_found}
 use Rattle.catalog.proofs.Sharing.{shared_any}
 use Rattle.catalog.proofs.tables.Catalog.has_table_name.Goals as goal
 
-pub returns : goal.returns
-returns c =
-    c.is_named.ensures ∙ (shared_any (has_table_name c.args.name.now) c.as_slice.result.now
-    ∙ ap (λ (handles : List (Rc Table Global)). list_any (has_table_name c.args.name.now) (shared handles)) c.as_slice.ensures.value)
+pub returns-then-is_some : goal.returns-then-is_some
+returns-then-is_some c =
+    c.if-is_some.true ∙ ap (λ b. b || list_any (has_index c.args.name.now) (tables_of c.args.self.now)) (sym c.if-is_some.true)
+    ∙ sym (any_found c.args.name.now (tables_of c.args.self.now) c.find.result c.is_some.result c.is_some.ensures c.find.ensures)
+
+pub returns-else-is_some : goal.returns-else-is_some
+returns-else-is_some c =
+    c.is_index_named.ensures
+    ∙ (shared_any (has_index c.args.name.now) c.as_slice.result.now ∙ ap (list_any (has_index c.args.name.now)) c.as_slice.ensures)
+    ∙ ap (λ b. b || list_any (has_index c.args.name.now) (tables_of c.args.self.now)) (sym c.if-is_some.false)
+    ∙ sym (any_found c.args.name.now (tables_of c.args.self.now) c.find.result c.is_some.result c.is_some.ensures c.find.ensures)
