@@ -6,7 +6,7 @@ ghost use Rattle.tree_pack.specs.Freeing as meant;
 ghost use Rattle.tree_pack.specs.Freeing.{AreClear, EndsBefore, IsBeforeClear, IsFreed, IsFreedBehind, IsOwn, greatest_in};
 ghost use Rattle.tree_pack.specs.Replacing.{IsCellAt};
 
-use crate::placing::number_of;
+use crate::placing::first_pointer;
 use crate::replacing::{CellPlace, cell_at};
 
 /// A freeblock: where it ends, and where the next one begins, or 0.
@@ -160,24 +160,25 @@ fn greatest_below(limit: u16, pointers: &[u8]) -> u16
 {
     let mut most = 0;
     let mut left = pointers;
-    'pointers: while let [high, low, after @ ..] = left {
-        most = counted(limit, number_of(*high, *low)).max(most);
+    'pointers: while let [_, _, after @ ..] = left {
+        most = counted(limit, first_pointer(left)).max(most);
         left = after;
     }
     most
 }
 
-/// The place of a pointer, if it is one of these.
+/// A place, if it is the one that is looked for, or else 0.
+fn place_if(is_there: bool, place: u16) -> u16 {
+    if is_there { place } else { 0 }
+}
+
+/// The place of a pointer, if it is one of these. (The greatest, if there are several: in a loop the compiler then reads many at a time.)
 fn place_of(pointers: &[u8], pointer: u16) -> usize {
-    let mut place = 0;
+    let mut place = 0_u16;
     let mut index = 0_u16;
     let mut left = pointers;
-    'pointers: while let [high, low, after @ ..] = left {
-        place = if number_of(*high, *low) == pointer {
-            index
-        } else {
-            place
-        };
+    'pointers: while let [_, _, after @ ..] = left {
+        place = place.max(place_if(first_pointer(left) == pointer, index));
         index = index.wrapping_add(1);
         left = after;
     }

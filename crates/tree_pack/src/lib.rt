@@ -23,6 +23,6 @@ pub use laws::{
 };
 pub use placing::{CellRoom, place_cell, room_for};
 pub use removing::{CellCut, cut_for};
-pub use rewriting::put_payload;
+pub use rewriting::{payload_place, put_payload};
 pub use splicing::{join, splice};
 pub use spreading::{Packed, Piece, pack};

@@ -1,6 +1,6 @@
 //! Putting a cell into the room between the pointers and the other cells.
 
-ghost use Rattle.std.specs.Prelude.{◌≡◌, ◌≤◌, ◌<◌, ◌+◌, ◌*◌, ◌^◌, IfOk, IfErr, IfSome, length};
+ghost use Rattle.std.specs.Prelude.{◌≡◌, ◌≤◌, ◌<◌, ◌+◌, ◌*◌, ◌%◌, ◌/◌, ◌^◌, IfOk, IfErr, IfSome, length, slice_index_or};
 ghost use Rattle.tree_page.specs.Node.{Node, IsNode};
 ghost use Rattle.tree_pack.specs.Placing.{Places, PlacesAt, HasRoom, IsRoomOn, Lies, least_in, placed_of, right_width};
 
@@ -27,11 +27,28 @@ fn stands_at(page: &[u8], at: usize, number: u16) -> bool {
     }
 }
 
-/// The number in two bytes, told by their values: in a loop the compiler then reads many at a time.
-pub(crate) fn number_of(high: u8, low: u8) -> u16
-    ensures value { result ≡ high * 256 + low }
+/// The first two bytes as a number, the lower byte first: in a loop the compiler loads many such at a time.
+fn first_number(bytes: &[u8]) -> u16
+    ensures value { 2 ≤ length bytes.now → result ≡ slice_index_or bytes.now 0 0 + slice_index_or bytes.now 1 0 * 256 }
 {
-    u16::from(high) * 256 + u16::from(low)
+    match bytes {
+        [low, high, ..] => u16::from(*low) + u16::from(*high) * 256,
+        _ => 0,
+    }
+}
+
+/// The number with its two bytes the other way round.
+fn swapped(number: u16) -> u16
+    ensures value { result ≡ number % 256 * 256 + number / 256 }
+{
+    number % 256 * 256 + number / 256
+}
+
+/// The first of these pointers.
+pub(crate) fn first_pointer(pointers: &[u8]) -> u16
+    ensures value { 2 ≤ length pointers.now → result ≡ slice_index_or pointers.now 0 0 * 256 + slice_index_or pointers.now 1 0 }
+{
+    swapped(first_number(pointers))
 }
 
 /// The least of this pointer and these others.
@@ -40,8 +57,8 @@ fn least_from(first: u16, others: &[u8]) -> u16
 {
     let mut least = first;
     let mut left = others;
-    'pointers: while let [high, low, after @ ..] = left {
-        least = least.min(number_of(*high, *low));
+    'pointers: while let [_, _, after @ ..] = left {
+        least = least.min(first_pointer(left));
         left = after;
     }
     least
@@ -52,10 +69,10 @@ fn least_pointer(pointers: &[u8], most: usize) -> usize
     ensures value { result ≡ least_in most pointers.now }
     ensures within { result ≤ most }
 {
-    let [high, low, others @ ..] = pointers else {
+    let [_, _, others @ ..] = pointers else {
         return most;
     };
-    let least = least_from(number_of(*high, *low), others);
+    let least = least_from(first_pointer(pointers), others);
     most.min(usize::from(least))
 }
 

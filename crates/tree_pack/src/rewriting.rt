@@ -1,8 +1,8 @@
 //! Putting payloads in the places of others that are as long, in the rows of a leaf.
 
-ghost use Rattle.std.specs.Prelude.{◌≡◌, ◌<◌, IfSome, IsFalse, IsTrue, List, drop, length, slice_index_or, ℤ};
+ghost use Rattle.std.specs.Prelude.{◌≡◌, ◌<◌, ◌≤◌, ◌+◌, IfSome, IsFalse, IsTrue, List, drop, length, slice_index_or, ℤ};
 ghost use Rattle.tree_page.specs.Node.{Local, Rows, IsNode};
-ghost use Rattle.tree_pack.specs.Replacing.{no_span};
+ghost use Rattle.tree_pack.specs.Replacing.{no_span, written_over};
 ghost use Rattle.tree_pack.specs.Rewriting.{IsPayloadAt, IsRewritten};
 
 use crate::replacing::write_over;
@@ -42,6 +42,23 @@ fn payload_at(page: &[u8], start: usize, place: usize, size: usize) -> Option<us
     }
 }
 
+/// Where a payload can be written over that of the row at a place of a table's leaf. None where that doesn't lie whole in its cell, or isn't as
+/// long.
+pub fn payload_place(page: &[u8], start: usize, place: usize, payload: &[u8]) -> Option<usize>
+    ensures on_page { IfSome result (λ at. at + length payload.now ≤ length page.now) }
+    ensures rewritten { (said : List (ℤ × Local)) (is : IsNode page.now start (Rows said)) → place < length is.cells
+        → IfSome result (λ at. IsRewritten page.now start said is place payload.now (written_over at payload.now page.now)) }
+{
+    if page.len().saturating_sub(35) < payload.len() {
+        return None;
+    }
+    let at = payload_at(page, start, place, payload.len())?;
+    if page.len() < at || page.len() - at < payload.len() {
+        return None;
+    }
+    Some(at)
+}
+
 /// Writes a payload over that of the row at a place of a table's leaf, if that lies whole in its cell and is as long. Answers whether it did; if
 /// not, nothing changes.
 pub fn put_payload(page: &mut Vec<u8>, start: usize, place: usize, payload: &[u8]) -> bool
@@ -49,10 +66,7 @@ pub fn put_payload(page: &mut Vec<u8>, start: usize, place: usize, payload: &[u8
         → IsTrue result → IsRewritten page.old.items start said is place payload.now page.new.items }
     ensures same { IsFalse result → page.new.items ≡ page.old.items }
 {
-    if page.len().saturating_sub(35) < payload.len() {
-        return false;
-    }
-    match payload_at(page.as_slice(), start, place, payload.len()) {
+    match payload_place(page.as_slice(), start, place, payload) {
         Some(at) => write_over(page, at, payload),
         None => false,
     }

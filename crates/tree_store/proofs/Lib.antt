@@ -10,3 +10,4 @@ pub mod RootedPages
 pub mod Staying
 pub mod PlacedPages
 pub mod CutPages
+pub mod RewrittenPages

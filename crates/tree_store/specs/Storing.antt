@@ -1,5 +1,5 @@
 -- Where the pages of a tree are stored, and what the page above gets for them.
-use Rattle.std.specs.Prelude.{◌≡◌, ◌⊎◌, ◌≤◌, ◌<◌, ◌^◌, ◌+◌, ℕ, Bool, false, true, List, [], ◌∷◌, ◌++◌, length, take, map, ⊤, Result, MatchResult}
+use Rattle.std.specs.Prelude.{◌≡◌, ◌⊎◌, ◌≤◌, ◌<◌, ◌^◌, ◌+◌, ℕ, ℤ, Bool, false, true, List, [], ◌∷◌, ◌++◌, length, take, map, ⊤, Result, MatchResult}
 use Rattle.std.specs.List.{AllByRecursion, insert}
 use Rattle.std.specs.Int.{w32, to_be_bytes}
 use Rattle.sqlval.specs.Faults.{IsOutside}
@@ -12,11 +12,12 @@ use Rattle.freelist.specs.Calls.{AreFree, HasFree, KeepsHeader}
 use Rattle.tree_page.specs.Cells.{Pairwise, IsTreePage}
 use Rattle.tree_page.specs.Reading.{type_of}
 use Rattle.tree_page.specs.declared.items.Kind.{Kind}
-use Rattle.tree_page.specs.Node.{Node, IsNode, Say, code_of, right_of}
+use Rattle.tree_page.specs.Node.{Local, Node, Rows, IsNode, Say, code_of, right_of}
 use Rattle.tree_pack.specs.Building.{right_room}
 use Rattle.tree_pack.specs.Parts.{total}
 use Rattle.tree_pack.specs.Placing.{IsPlaced}
 use Rattle.tree_pack.specs.Packing.{images, divider_bytes}
+use Rattle.tree_pack.specs.Rewriting as rewriting
 use Rattle.tree_pack.specs.Splicing.{spliced}
 use Rattle.tree_pack.specs.declared.spreading.Packed.{Packed}
 use Rattle.tree_store.specs.declared.storing.Fan.{Fan}
@@ -62,6 +63,20 @@ TakesOff old new size number place result = (free : List ℕ) → AreFree old si
     → code_of now ≡ code_of was → right_of now ≡ right_of was → Say size (spliced place 1 [] is.cells) now
     → MatchResult result
     (λ taken. IsPlacedOn old new size free number (spliced place 1 [] is.cells) now taken × (taken ≡ true → 2 ≤ length is.cells)) IsOutside
+
+-- At `true` the leaf's row at a place has the payload then, which lies whole in its cell, and what is used and free is so still; at `false` nothing
+-- has changed.
+abbrev pub IsRewrittenOn : (old new : PageMap) (size : ℕ) (free : List ℕ) (number : ℕ) (said : List (ℤ × Local)) → IsNode (page_at old number) (start_of number) (Rows said) → ℕ → List ℕ → Bool → Type 0
+IsRewrittenOn old new size free number said is place payload false = new ≡ old
+IsRewrittenOn old new size free number said is place payload true =
+    (image : List ℕ) × rewriting.IsRewritten (page_at old number) (start_of number) said is place payload image × IsRewritten old new size free number image
+
+-- Where a page that isn't free is a table's leaf, the row at a place has the payload then, where the one before was as long; or nothing has changed;
+-- or memory was short, or a disk's call failed.
+abbrev pub RewritesOn : PageMap → PageMap → ℕ → ℕ → ℕ → List ℕ → Result Bool Fault → Type 0
+RewritesOn old new size number place payload result = (free : List ℕ) → AreFree old size free → Has old number → occurs number free ≡ 0
+    → (said : List (ℤ × Local)) (is : IsNode (page_at old number) (start_of number) (Rows said)) → place < length is.cells
+    → MatchResult result (IsRewrittenOn old new size free number said is place payload) IsOutside
 
 -- ---- pages side by side
 

@@ -3,4 +3,6 @@
 
 mod storing;
 
-pub use storing::{Fan, give_all, place_on, put_node, raise, store, store_root, take_off};
+pub use storing::{
+    Fan, give_all, place_on, put_node, raise, rewrite_on, store, store_root, take_off,
+};

@@ -8,14 +8,16 @@ ghost use Rattle.pages.specs.Counting.{start_of};
 ghost use Rattle.pages.specs.Map.{page_at, IsThere};
 ghost use Rattle.tree_pack.specs.Building.{right_room};
 ghost use Rattle.tree_pack.specs.Packing.{images};
-ghost use Rattle.tree_store.specs.Storing.{PlacesOn, TakesOff, Rewrites, Stores, Roots, cells_over, cells_of};
+ghost use Rattle.tree_store.specs.Storing.{PlacesOn, TakesOff, Rewrites, RewritesOn, Stores, Roots, cells_over, cells_of};
 ghost use Rattle.tree_store.specs.Steps.{TakesMore, WritesAll, WritesHead, GivesAll, Raises};
 
 use freelist::{give, take};
 use pages::WritePages;
 use sqlval::{Damage, Fault, R};
 use std::alloc::Global;
-use tree_pack::{CellCut, CellRoom, FreeblockHead, Packed, Piece, build, cut_for, fits, room_for};
+use tree_pack::{
+    CellCut, CellRoom, FreeblockHead, Packed, Piece, build, cut_for, fits, payload_place, room_for,
+};
 use tree_page::Kind;
 
 /// What an interior page gets for pages side by side.
@@ -137,6 +139,28 @@ pub fn take_off<P: WritePages>(alloc: Global, pages: &mut P, number: u32, place:
     pages.write_over(number, start + 1, &cut.header)?;
     write_head(pages, number, cut.block)?;
     write_head(pages, number, cut.before)?;
+    Ok(true)
+}
+
+/// Writes a payload over that of the row at a place of a table's leaf, in its page, if that lies whole in its cell and is as long. Answers whether
+/// it did; if not, nothing changes. (What `load` and `write_over` refuse.)
+pub fn rewrite_on<P: WritePages>(
+    pages: &mut P,
+    number: u32,
+    place: usize,
+    payload: &[u8],
+) -> R<bool>
+    ensures rewritten { IsTrue (P.Pages.tells (P.Pages.below pages.old))
+        → RewritesOn (P.Pages.map pages.old) (P.Pages.map pages.new)
+        (P.Pages.limits (P.Pages.below pages.old)).page number place payload.now result }
+    ensures kept { P.Pages.below pages.new ≡ P.Pages.below pages.old }
+    ensures causes { Causes result (P.Pages.failures pages.old) (P.Pages.failures pages.new) ⊥ }
+{
+    pages.load(number)?;
+    let Some(at) = payload_place(pages.loaded(), start_at(number), place, payload) else {
+        return Ok(false);
+    };
+    pages.write_over(number, at, payload)?;
     Ok(true)
 }
 

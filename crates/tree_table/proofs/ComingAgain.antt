@@ -116,7 +116,7 @@ changed_again rowid (change ∷ []) alone first low rows high h there =
     again_by rowid change.payload low rows high h there ∙ ap (λ (z : ℤ). with_change (record { rowid = z; payload = change.payload }) (rows_in rows)) (sym first)
 changed_again rowid (change ∷ next ∷ changes) alone first low rows high h there = absurd alone
 
-alone_local : (rowid high : ℤ) (changes : List RowChange) → IsOneChange changes → IsFirst rowid changes → rowid ≤ℤ high → IsLocal rowid high (with_changes (take 1 changes))
+pub alone_local : (rowid high : ℤ) (changes : List RowChange) → IsOneChange changes → IsFirst rowid changes → rowid ≤ℤ high → IsLocal rowid high (with_changes (take 1 changes))
 alone_local rowid high [] alone first upto = absurd alone
 alone_local rowid high (change ∷ []) alone first upto =
     changes_local rowid high (change ∷ []) (subst (λ (z : ℤ). (rowid ≤ℤ z) × (z ≤ℤ high)) (sym first) (same_le rowid, upto), tt)

@@ -22,6 +22,7 @@ mod NewCells
 mod RunFrees
 mod RunPlaces
 mod RunMade
+mod PutLeaf
 mod TakenRows
 mod ComingAgain
 mod Replaced
@@ -70,3 +71,4 @@ mod Clearing
 mod OneTrees
 mod RewrittenRows
 mod RewrittenLeaves
+mod RowsInPlace

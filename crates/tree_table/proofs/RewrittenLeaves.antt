@@ -110,7 +110,7 @@ module _ (m : PageMap) (size : ℕ) where
     header = same_keeps m m refl;
   }
 
-all_of_each : (P : ℕ → Type 0) (xs : List ℕ) → AllByRecursion P xs → All P xs
+pub all_of_each : (P : ℕ → Type 0) (xs : List ℕ) → AllByRecursion P xs → All P xs
 all_of_each P [] all k d lt = absurd (omega (arith, lt))
 all_of_each P (x ∷ xs) all zero d lt = all.0
 all_of_each P (x ∷ xs) all (suc k) d lt = all_of_each P xs all.1 k d (omega (arith, lt))

@@ -5,10 +5,7 @@ use Rattle.sqlval.specs.declared.fault.Fault.{Fault}
 use Rattle.sqlval.specs.Faults.{IsOutside}
 use Rattle.pages.specs.Calls.{IsOutsideOrFull}
 use Rattle.pages.specs.Counting.{occurs, start_of}
-use Rattle.pages.specs.Laws.{IsJoined}
-use Rattle.pages.specs.Map.{PageMap, page_at, Has, IsThere}
-use Rattle.pages.proofs.Moving.{occurs_append}
-use Rattle.freelist.proofs.Lists.{occurs_self}
+use Rattle.pages.specs.Map.{PageMap, page_at, IsThere}
 use Rattle.tree_page.specs.Cells.{Pairwise}
 use Rattle.tree_page.specs.Node.{Local, Rows, IsNode, IsRowCell, Say}
 use Rattle.tree_page.specs.Payload.{table_most}
@@ -17,7 +14,6 @@ use Rattle.tree_pack.specs.Splicing.{spliced}
 use Rattle.tree_pack.proofs.Splices.{pairwise_spliced}
 use Rattle.tree_store.specs.Saying.{Says}
 use Rattle.tree_store.specs.Storing.{IsPlacedOn, TakesOff}
-use Rattle.tree_store.proofs.PutPages.{put_there}
 use Rattle.tree_table.specs.Growing.{IsPut, IsUnder}
 use Rattle.tree_table.specs.Rows.{without_row}
 use Rattle.tree_table.specs.Runs.{IsOneChange, IsTakenOff, TakesRow, none_held}
@@ -30,11 +26,10 @@ use Rattle.tree_table.proofs.Few.{large_size}
 use Rattle.tree_table.proofs.Givings.{chain_of}
 use Rattle.tree_table.proofs.Leaves.{chains_of}
 use Rattle.tree_table.proofs.Orders.{rows_in}
-use Rattle.tree_table.proofs.Passing.{beside_used, others_seen}
+use Rattle.tree_table.proofs.PutLeaf.{leaf_put, unfree}
 use Rattle.tree_table.proofs.RunFrees.{item, none_go_on}
 use Rattle.tree_table.proofs.RunLists.{kept_pages}
 use Rattle.tree_table.proofs.RunRows.{IsRunOf, run_rises, rises_exchanged, rows_exchanged}
-use Rattle.tree_table.proofs.Staying.{rows_stay}
 
 -- ---- the list without the item at a place
 
@@ -62,7 +57,7 @@ module _ (old : PageMap) (size number ways : ℕ) (rowid low : ℤ) (t : Leaf) (
   run : IsRunOf 0 t.rows (removed ∷ []) (place ∷ [])
   run = (omega arith, lt, same none_held, tt)
 
-  says : Says old number (Rows said)
+  pub says : Says old number (Rows said)
   says = subst (λ (n : ℕ). Says old n (Rows said)) under.top_is (under.lies).says
 
   pub taken_there : IsThere old size number
@@ -71,10 +66,10 @@ module _ (old : PageMap) (size number ways : ℕ) (rowid low : ℤ) (t : Leaf) (
   long : length (page_at old number) ≡ size
   long = taken_there.whole
 
-  node : IsNode (page_at old number) (start_of number) (Rows said)
+  pub node : IsNode (page_at old number) (start_of number) (Rows said)
   node = says.node_is
 
-  within : place < length node.cells
+  pub within : place < length node.cells
   within =
       let count = same_length (IsRowCell (length (page_at old number))) node.cells said node.say ∙ same_length (IsHeldAs old size) said t.rows (under.lies).rows in
       omega (arith, lt, count)
@@ -117,53 +112,16 @@ module _ (old : PageMap) (size number ways : ℕ) (rowid low : ℤ) (t : Leaf) (
         let e = ap (λ (xs : List Held). occurs n (chains_of xs)) (cut_plain place t.rows) in
         omega (arith, whole, none, e)
 
-    was : IsJoined (number ∷ []) (chains_of others) (pages_of zero t)
-    was n =
-        let top = ap (λ (m : ℕ). occurs n (m ∷ chains_of t.rows)) under.top_is in
-        let both = occurs_append n (number ∷ []) (chains_of t.rows) in
-        let e = chains_same n in
-        omega (arith, top, both, e)
-
-    now : IsJoined (number ∷ []) (chains_of others) (t.page ∷ chains_of others)
-    now n =
-        let top = ap (λ (m : ℕ). occurs n (m ∷ chains_of others)) under.top_is in
-        let both = occurs_append n (number ∷ []) (chains_of others) in
-        omega (arith, top, both)
-
-    unfree : occurs number free ≡ 0
-    unfree = (let once = under.apart number in let all = was number in let self = occurs_self number in omega (arith, once, all, self))
-
-    unused : (n : ℕ) → 1 ≤ occurs n (chains_of others) → occurs n (number ∷ []) + occurs n free ≡ 0
-    unused n some = (let once = under.apart n in let all = was n in omega (arith, once, all, some))
-
     -- the leaf's page has the others now
     taken_put : (new : PageMap) → IsPlacedOn old new size free number (spliced place 1 [] node.cells) (Rows new_said) true
         → IsPut old new size number zero low high (without_row rowid (rows_of zero t)) (pages_of zero t) free
     taken_put new (image, placed, rewritten) =
-        let moves = rewritten.moves in
-        let has : Has new number = record { first = says.has.first; last = (let last = says.has.last in let longer = moves.longer in omega (arith, last, longer)) } in
-        let bytes : page_at new number ≡ image = ap (λ (m : PageMap). page_at m number) rewritten.is ∙ put_there old number image says.has in
-        let says_new : Says new number (Rows new_said) = record { has = has; node_is = subst (λ (l : List ℕ). IsNode l (start_of number) (Rows new_said)) (sym bytes) placed.is } in
-        record {
-          tree = record { page = t.page; rows = others };
-          top_is = under.top_is;
-          lies = record {
-            said = new_said;
-            says = subst (λ (n : ℕ). Says new n (Rows new_said)) (sym under.top_is) says_new;
-            rows = rows_stay old new moves.longer size new_said others (others_seen old new (number ∷ []) free (number ∷ []) free (chains_of others) moves unused) held_rows;
-          };
-          sorted = sorted;
-          rows_are = rows_are;
-          now_free = free;
-          has = rewritten.has;
-          moves = beside_used old new (number ∷ []) free (number ∷ []) free (chains_of others) (pages_of zero t) (t.page ∷ chains_of others) moves was now;
-          header = rewritten.header;
-        }
+        leaf_put old size number ways rowid low t high free under others chains_same new_said (without_row rowid (rows_of zero t)) held_rows sorted rows_are new image placed.is rewritten
 
     pub row_taken : (changes : List RowChange) → IsOneChange changes → (new : PageMap) (result : Result Bool Fault) → TakesOff old new size number place result
         → MatchResult result (IsTakenOff old new size number rowid changes low t high free) IsOutside
     row_taken changes alone new result takes =
-        by result (takes free under.free_are says.has unfree (Rows said) (Rows new_said) node (large_size size under.sized).0 (large_size size under.sized).1 within refl refl say)
+        by result (takes free under.free_are says.has (unfree old size number ways rowid low t high free under others chains_same) (Rows said) (Rows new_said) node (large_size size under.sized).0 (large_size size under.sized).1 within refl refl say)
       where
         by : (result : Result Bool Fault)
             → MatchResult result (λ taken. IsPlacedOn old new size free number (spliced place 1 [] node.cells) (Rows new_said) taken × (taken ≡ true → 2 ≤ length node.cells)) IsOutside

@@ -197,6 +197,19 @@ IsOneChange [] = ⊥
 IsOneChange (change ∷ []) = ⊤
 IsOneChange (change ∷ next ∷ changes) = ⊥
 
+-- at `true` there is one change, and the leaf has its rows after it; at `false` nothing has changed
+abbrev pub IsRowRewritten : PageMap → PageMap → ℕ → ℕ → List RowChange → ℤ → Leaf → ℤ → List ℕ → Bool → Type 0
+IsRowRewritten old new size number changes low t high free false = new ≡ old
+IsRowRewritten old new size number changes low t high free true =
+    IsOneChange changes × IsPut old new size number 0 low high (with_changes (take 1 changes) (rows_of 0 t)) (pages_of 0 t) free
+
+-- where a leaf has the first change's row at a place, it is changed there, or nothing has changed; or memory was short, or a disk's call failed
+abbrev pub RewritesRow : PageMap → PageMap → ℕ → ℕ → ℕ → List RowChange → Result Bool Fault → Type 0
+RewritesRow old new size number place changes result = (ways : ℕ) (rowid low : ℤ) (t : Leaf) (high : ℤ) (free : List ℕ)
+    → IsUnder old size number ways rowid 0 low t high free → IsFirst rowid changes → place < length t.rows
+    → ((d : Held) → (slice_index_or t.rows place d).row.rowid ≡ rowid)
+    → MatchResult result (IsRowRewritten old new size number changes low t high free) IsOutside
+
 -- at `true` there is one change, and the leaf has its rows without the one of this rowid; at `false` nothing has changed
 abbrev pub IsTakenOff : PageMap → PageMap → ℕ → ℕ → ℤ → List RowChange → ℤ → Leaf → ℤ → List ℕ → Bool → Type 0
 IsTakenOff old new size number rowid changes low t high free false = new ≡ old

@@ -5,7 +5,7 @@ ghost use Rattle.sqlval.specs.Faults.{IsNotDiskFault};
 ghost use Rattle.pages.specs.Calls.{Causes};
 ghost use Rattle.pages.specs.Counting as counting;
 ghost use Rattle.tree_page.specs.Node.{Local, Rows, IsNode};
-ghost use Rattle.tree_table.specs.Runs.{AppendsRow, ChangesBelow, ChangesLeaf, Exchanges, ExchangesLeaf, FindsPlace, FindsRun, FreesRun, IsOneChange, IsFirst, PutsAgain, TakesRow, room_for, WritesRow, WritesRows};
+ghost use Rattle.tree_table.specs.Runs.{AppendsRow, ChangesBelow, ChangesLeaf, Exchanges, ExchangesLeaf, FindsPlace, FindsRun, FreesRun, IsFirst, PutsAgain, TakesRow, room_for, WritesRow, WritesRows};
 ghost use Rattle.tree_table.specs.Stepping.{HasRowid};
 
 use crate::changing::RowChange;
@@ -14,7 +14,7 @@ use crate::freeing::free_row;
 use crate::growing::{Change, leaf_with};
 use crate::joining::narrowed;
 use crate::leaf::start_of;
-use crate::rewriting::{begins_as_long, rewritten};
+use crate::rewriting::{is_one_change, rewrite_row, rewritten};
 use pages::WritePages;
 use sqlval::{Damage, Fault, R};
 use std::alloc::Global;
@@ -310,18 +310,8 @@ fn changed_leaf<P: WritePages>(
     Ok((count, packed))
 }
 
-/// Whether there is one change alone.
-fn is_one_change(changes: &[RowChange]) -> bool
-    ensures { IsTrue result → IsOneChange changes.now }
-{
-    match changes {
-        [_] => true,
-        _ => false,
-    }
-}
-
-/// Takes the row at a place off its leaf, without moving any other, where its change is the only one and gives it no payload that is as long, and
-/// the row lies whole on the leaf. Answers whether it did; if not, nothing changes. (What `load` and `take_off` refuse.)
+/// Takes the row at a place off its leaf, without moving any other, where its change is the only one and the row lies whole on the leaf. Answers
+/// whether it did; if not, nothing changes. (What `load` and `take_off` refuse.)
 fn taken_off<P: WritePages>(
     alloc: Global,
     pages: &mut P,
@@ -341,9 +331,6 @@ fn taken_off<P: WritePages>(
     pages.load(number)?;
     let most = pages.page_size().saturating_sub(35);
     if !are_short(pages.loaded(), number, &[place], most as u64) {
-        return Ok(false);
-    }
-    if begins_as_long(pages.loaded(), start_of(number), &[place], changes) {
         return Ok(false);
     }
     take_off(alloc, pages, number, place)
@@ -401,6 +388,9 @@ pub(crate) fn changed_below<P: WritePages>(
 {
     let (place, child) = match step_from(pages, number, rowid)? {
         Step::Found(place) => {
+            if rewrite_row(pages, number, place, changes)? {
+                return Ok((1, Change::Same));
+            }
             if taken_off(alloc, pages, number, place, changes)? {
                 let change = put_again(alloc, pages, number, place, ways, rowid, changes)?;
                 return Ok((1, change));
