@@ -20,9 +20,9 @@ use Rattle.session.proofs.Parking.{parked_count, set_length}
 use Rattle.engine.specs.Replies.{reply_of}
 
 -- a reply is refused as its call was
-pub full_reply : (result : Result (Vec (SmallVec Value) Global) Fault) → reply_of result ≡ Err fault.Full → result ≡ Err fault.Full
-full_reply (Ok rows) is = absurd cc
-full_reply (Err f) is = cc
+pub refused_reply : (result : Result (Vec (SmallVec Value) Global) Fault) (f : Fault) → reply_of result ≡ Err f → result ≡ Err f
+refused_reply (Ok rows) f is = absurd cc
+refused_reply (Err e) f is = cc
 
 within : (n : ℕ) → is_connection n ≡ true → (1 ≤ n) × (n ≤ 16)
 within n is = (grind (arith, nat_tests, is), grind (arith, nat_tests, is))

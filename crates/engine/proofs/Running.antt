@@ -154,7 +154,7 @@ module _ {D : Type 0} {g : Ghosts D} where
       record {
         to = record {
           end = rest.to.end;
-          runs = (mid, to.next, inr (inr (on, record { connection = ex.connection; statement = ex.statement; says = ex.says; fits = ex.fits; to = to; next_is = refl; full = ex.full })), rest.to.runs);
+          runs = (mid, to.next, inr (inr (on, record { connection = ex.connection; statement = ex.statement; says = ex.says; fits = ex.fits; to = to; next_is = refl; full = ex.full; early = ex.early })), rest.to.runs);
           shown = rest.to.shown;
           crash = throughout_both (LeaveHeld May) (LeaveHeld May) (λ d l h. h) _ _ _ _ _ _
               (held_weaker (MayShow m to.next) May (λ db. step_shows m to.next rest.to.end db (sound_of old m shows) (sound_of mid to.next to.shown) (running_of old m shows on) first rest.keeps rest.stays) (files_in old) (files_in mid) to.crash)

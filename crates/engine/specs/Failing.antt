@@ -6,6 +6,7 @@ use Rattle.sqlval.specs.declared.fault.Fault.TheVariants.{Full}
 use Rattle.sql_syntax.specs.declared.statement.Statement.{Statement}
 use Rattle.sql_grammar.specs.Texts.{IsStatementText}
 use Rattle.session.specs.ConnectionState.{HasCauseIn}
+use Rattle.session.specs.CopiedBack.{KeepsDisksWhereShort}
 use Rattle.session.specs.Failing.{HasCallFailed, IsPastIn, MarksFailure, may_commit}
 use Rattle.session.specs.Machine.{Machine}
 use Rattle.session.specs.Representation.{transaction_of}
@@ -22,6 +23,10 @@ module _ {D : Type 0} {g : Ghosts D} where
   -- `Full` comes only of a statement that may make the database larger or commit, and where it commits, only past the limits
   abbrev pub HasFullCause : {T : Type 0} → Engine D g → ℕ → List ℕ → Result T Fault → Type 0
   HasFullCause engine connection text result = result ≡ Err Full → (s : Statement) × IsStatementText text s × IsTrue (may_be_full s) × IsPastOnCommit engine connection s
+
+  -- A checkpoint that is refused for memory leaves both disks as they were.
+  abbrev pub KeepsDisksOfText : {T : Type 0} → Engine D g → List ℕ → Result T Fault → Engine D g → Type 0
+  KeepsDisksOfText old text result new = (s : Statement) → IsStatementText text s → KeepsDisksWhereShort s (files_in old) result (files_in new)
 
   -- The answer to a statement: `Io` comes only where a call of a disk failed; of refusals it alone marks the engine as failed, and where it
   -- doesn't, it leaves what readers see.

@@ -12,7 +12,7 @@ use Rattle.session.specs.Machine.{Machine, Rows, Refused, idle}
 use Rattle.session.specs.Representation.{AreGivenUp}
 use Rattle.session.specs.Crashes.{MayShowInRun}
 use Rattle.engine.specs.EngineState.{connections_of, has_failed_of}
-use Rattle.engine.specs.Failing.{HasFullCause, MarksWhereCounted}
+use Rattle.engine.specs.Failing.{HasFullCause, KeepsDisksOfText, MarksWhereCounted}
 use Rattle.engine.specs.Lines.{AreLines, Between, IsLineRefusal, IsInputLine, kept_of}
 use Rattle.engine.specs.Output.{output_text}
 use Rattle.engine.specs.Representation.{EngineRepresents, StepsByText, StepsByTextTo, files_in}
@@ -63,6 +63,7 @@ module _ {D : Type 0} {g : Ghosts D} where
     pub step : StepsByText old connection statement (machine_reply reply) new
     pub counted : MarksWhereCounted old new
     pub full : HasFullCause old connection statement reply
+    pub early : KeepsDisksOfText old statement reply new
 
   -- A reply to what was kept of a line: the engine had failed, or the line is refused, and nothing changes; or its statement was executed.
   abbrev pub AnswersKept : Engine D g → List ℕ → Reply → Engine D g → Type 0
@@ -91,6 +92,7 @@ module _ {D : Type 0} {g : Ghosts D} where
     pub to : StepsByTextTo old m connection statement (machine_reply reply) new
     pub next_is : next ≡ to.next
     pub full : HasFullCause old connection statement reply
+    pub early : KeepsDisksOfText old statement reply new
 
   -- A reply to a line, from a machine to the next, which differs only where its statement was executed.
   abbrev pub AnswersFrom : Engine D g → Machine → List ℕ → Reply → Engine D g → Machine → Type 0

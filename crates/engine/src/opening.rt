@@ -149,7 +149,7 @@ fn load_and_truncate<D: Disk + Drop>(alloc: Global, log: &mut Log<D>) -> R<Seats
 impl<D: Disk + Drop> Engine<D> {
     ghost use Rattle.session.specs.ConnectionState.{IsNoConnection};
     ghost use Rattle.engine.specs.EngineState.{db_disk, has_failed_of, log_disk};
-    ghost use Rattle.engine.specs.Failing.{CountsFailures, HasFullCause};
+    ghost use Rattle.engine.specs.Failing.{CountsFailures, HasFullCause, KeepsDisksOfText};
     ghost use Rattle.session.specs.Holding.{Hold, LeaveHeld};
     ghost use Rattle.engine.specs.Opening.{HoldsMeanwhile, IsOpenOf, IsOpenedFrom, IsRefusedOpen, db_left, log_left};
     ghost use Rattle.engine.specs.Serving.{GivesUp};
@@ -233,6 +233,8 @@ impl<D: Disk + Drop> Engine<D> {
         ensures counted { CountsFailures result self.old self.new }
         // What only reads, begins or rolls back is never refused as `Full`, and a COMMIT, or a RELEASE that commits, only past the limits.
         ensures full { HasFullCause self.old connection text.now result }
+        // A checkpoint that finds no memory leaves both disks as they were.
+        ensures early { KeepsDisksOfText self.old text.now result self.new }
         // The reply to the text is a step of each machine that was represented, and the machine after it is represented then.
         ensures step { StepsByText self.old connection text.now (rows_reply result) self.new }
     {

@@ -42,5 +42,6 @@ mod AllRows
 mod LiteralSets
 mod PlacesByColumn
 mod RowsInStores
+pub mod ShownViews
 mod SingleRows
 mod StoredAgain

@@ -14,6 +14,7 @@ use Rattle.catalog.specs.Database.{Database}
 use Rattle.catalog.specs.declared.tables.Table.{Table}
 use Rattle.query_terms.specs.Outcome.{AnswersBy, IsRefusedBy}
 use Rattle.query_terms.specs.Values.{Row}
+use Rattle.query_terms.specs.declared.tree.Place.{Place}
 use Rattle.query_names.specs.Readings.{Sortable, cut, in_order, once, rows_over}
 use Rattle.query_names.specs.Views.{answer_of}
 use Rattle.query_names.specs.declared.queries.BoundSource.{BoundSource}
@@ -23,7 +24,8 @@ use Rattle.query_bind.specs.Named.{ArePlaced, place_seen}
 use Rattle.query_answer.specs.Answers.{LoadsBeside, given_rows}
 use Rattle.query_answer.specs.Nesting.{beside_rows, Named}
 use Rattle.query_answer.specs.Parts.{GiveNone, StayRefused, given_of, is_row_by_row}
-use Rattle.row_scan.specs.Sources.{GivesRows, HoldRows, as_held, as_source}
+use Rattle.row_scan.specs.Sources.{GivesShown, HoldRows, as_held, as_source, as_shown, shown_in, shown_source}
+use Rattle.row_scan.specs.Rows.{TableRow}
 use Rattle.row_scan.specs.Trees.{AnswersOrFails, HasRows}
 use Rattle.executor.specs.Reading.{Streams, answer_within, rows_of_each}
 use Rattle.db_pages.specs.Stored.{Stores}
@@ -41,55 +43,64 @@ refused_over q rows r e = ap (λ (a : Answer (List Sortable)). a then λ found. 
     finished : Rows → Answer Rows
     finished rows = Ok rows
 
+map_after : {X : Type 0} (g : Row → Row) (f : X → Row) (xs : List X) → map g (map f xs) ≡ map (λ x. g (f x)) xs
+map_after g f [] = refl
+map_after g f (x ∷ xs) = ap (λ (rows : List Row). g (f x) ∷ rows) (map_after g f xs)
+
+-- what is shown of entries is shown of the rows that they are held as
+shown_of_rows : (shown : Option (List Place)) (own : Option ℕ) (entries : List Entry) (rows : List TableRow) → map (as_held own) entries ≡ map as_source rows → map (as_shown shown own) entries ≡ map (shown_source shown) rows
+shown_of_rows shown own entries rows e =
+    sym (map_after (shown_in shown) (as_held own) entries) ∙ (ap (map (shown_in shown)) e ∙ map_after (shown_in shown) as_source rows)
+
 module _ {P K : Type 0} (below : P → K) (tells : K → Bool) (limits : K → Limits) (pages : P → PageMap) (count : P → ℕ) (failures : P → ℕ × ℕ) where
   -- What is so after some leaves.
-  pub record HasStreamed (old now : P) (q : Reading) (table : BoundSource) (at_root : ℕ) (next : Option ℤ) (found : List Sortable) : Type 0 where
+  pub record HasStreamed (old now : P) (q : Reading) (table : BoundSource) (shown : Option (List Place)) (at_root : ℕ) (next : Option ℤ) (found : List Sortable) : Type 0 where
     pub stays : Stays below pages count failures {T = ⊤} (Ok tt) old now
     pub same_root : at_root ≡ table.root
     pub before : List Row
     pub given : given_of q before ≡ Ok found
     pub are : IsTrue (tells (below old)) → (entries : List Entry) (used : List ℕ) → AreWhole (limits (below old)).page (pages old) → IsTableTree (pages old) (limits (below old)).page table.root entries used
-        → map (as_held table.shape.own) entries ≡ before ++ map (as_held table.shape.own) (rows_from next entries)
+        → map (as_shown shown table.shape.own) entries ≡ before ++ map (as_shown shown table.shape.own) (rows_from next entries)
 
-  pub none_streamed : (old : P) (q : Reading) (table : BoundSource) (at_root : ℕ) (next : Option ℤ) (found : List Sortable) → GiveNone → is_row_by_row q ≡ true → found ≡ [] → at_root ≡ table.root → BeginsAll next → HasStreamed old old q table at_root next found
-  none_streamed old q table at_root next found none is empty same begin = record {
+  pub none_streamed : (old : P) (q : Reading) (table : BoundSource) (shown : Option (List Place)) (at_root : ℕ) (next : Option ℤ) (found : List Sortable) → GiveNone → is_row_by_row q ≡ true → found ≡ [] → at_root ≡ table.root → BeginsAll next → HasStreamed old old q table shown at_root next found
+  none_streamed old q table shown at_root next found none is empty same begin = record {
     stays = record { kept = refl; same = refl; counted = refl; causes = record { db = omega arith; log = omega arith; why = tt } };
     same_root = same;
     before = [];
     given = none q is ∙ ap (λ (l : List Sortable). good l) (sym empty);
-    are = λ told entries used whole tree. ap (map (as_held table.shape.own)) (sym (begin (pages old) (limits (below old)).page table.root entries used tree));
+    are = λ told entries used whole tree. ap (map (as_shown shown table.shape.own)) (sym (begin (pages old) (limits (below old)).page table.root entries used tree));
   }
     where
       good : List Sortable → Answer (List Sortable)
       good l = Ok l
 
   -- what a call says of the pages as they were
-  since : (old mid : P) (root : ℕ) (own : Option ℕ) (at_root : ℕ) (next later : Option ℤ) (result : Result (List Row) Fault) → Stays below pages count failures {T = ⊤} (Ok tt) old mid → at_root ≡ root
-      → (IsTrue (tells (below mid)) → GivesRows (pages mid) (limits (below mid)).page at_root own next later result) → IsTrue (tells (below old)) → GivesRows (pages old) (limits (below old)).page root own next later result
-  since old mid root own at_root next later result stays same gives told =
-      subst (λ (n : ℕ). GivesRows (pages old) (limits (below old)).page n own next later result) same
-      (subst (λ (m : PageMap). GivesRows m (limits (below old)).page at_root own next later result) stays.same
-      (subst (λ (k : K). GivesRows (pages mid) (limits k).page at_root own next later result) stays.kept (gives (subst (λ (k : K). IsTrue (tells k)) (sym stays.kept) told))))
+  since : (old mid : P) (root : ℕ) (shown : Option (List Place)) (own : Option ℕ) (at_root : ℕ) (next later : Option ℤ) (result : Result (List Row) Fault) → Stays below pages count failures {T = ⊤} (Ok tt) old mid → at_root ≡ root
+      → (IsTrue (tells (below mid)) → GivesShown (pages mid) (limits (below mid)).page at_root shown own next later result) → IsTrue (tells (below old)) → GivesShown (pages old) (limits (below old)).page root shown own next later result
+  since old mid root shown own at_root next later result stays same gives told =
+      subst (λ (n : ℕ). GivesShown (pages old) (limits (below old)).page n shown own next later result) same
+      (subst (λ (m : PageMap). GivesShown m (limits (below old)).page at_root shown own next later result) stays.same
+      (subst (λ (k : K). GivesShown (pages mid) (limits k).page at_root shown own next later result) stays.kept (gives (subst (λ (k : K). IsTrue (tells k)) (sym stays.kept) told))))
 
-  module _ (old mid : P) (q : Reading) (table : BoundSource) (at_root : ℕ) (next later : Option ℤ) (found : List Sortable) (has : HasStreamed old mid q table at_root next found) where
+  module _ (old mid : P) (q : Reading) (table : BoundSource) (shown : Option (List Place)) (at_root : ℕ) (next later : Option ℤ) (found : List Sortable) (has : HasStreamed old mid q table shown at_root next found) where
     -- a leaf that isn't read
     pub leaf_unread : {X : Type 0} (view : X → Rows) (fault : Fault) (result : Result X Fault) → HoldRows → IsErrAnd result (λ e. e ≡ fault)
-        → (IsTrue (tells (below mid)) → GivesRows (pages mid) (limits (below mid)).page at_root table.shape.own next later (Err fault)) → IsTrue (tells (below old)) → Streams view (pages old) (limits (below old)).page q table result
+        → (IsTrue (tells (below mid)) → GivesShown (pages mid) (limits (below mid)).page at_root shown table.shape.own next later (Err fault)) → IsTrue (tells (below old)) → Streams view (pages old) (limits (below old)).page q table shown result
     leaf_unread view fault (Ok x) hold same gives told rows whole holds = absurd same
     leaf_unread view fault (Err e) hold same gives told rows whole holds =
-        inl (subst IsOutside (sym same) (since old mid table.root table.shape.own at_root next later (Err fault) has.stays has.same_root gives told holds.entries holds.used whole holds.tree))
+        inl (subst IsOutside (sym same) (since old mid table.root shown table.shape.own at_root next later (Err fault) has.stays has.same_root gives told holds.entries holds.used whole holds.tree))
 
-    module _ (rows : List Row) (gives : IsTrue (tells (below mid)) → GivesRows (pages mid) (limits (below mid)).page at_root table.shape.own next later (Ok rows)) where
+    module _ (rows : List Row) (gives : IsTrue (tells (below mid)) → GivesShown (pages mid) (limits (below mid)).page at_root shown table.shape.own next later (Ok rows)) where
       more_are : IsTrue (tells (below old)) → (entries : List Entry) (used : List ℕ) → AreWhole (limits (below old)).page (pages old) → IsTableTree (pages old) (limits (below old)).page table.root entries used
-          → map (as_held table.shape.own) entries ≡ (has.before ++ rows) ++ map (as_held table.shape.own) (rows_from later entries)
+          → map (as_shown shown table.shape.own) entries ≡ (has.before ++ rows) ++ map (as_shown shown table.shape.own) (rows_from later entries)
       more_are told entries used whole tree =
           has.are told entries used whole tree
-          ∙ (ap (λ (l : List Row). has.before ++ l) (since old mid table.root table.shape.own at_root next later (Ok rows) has.stays has.same_root gives told entries used whole tree)
-          ∙ sym (append_assoc has.before rows (map (as_held table.shape.own) (rows_from later entries))))
+          ∙ (ap (λ (l : List Row). has.before ++ l) (since old mid table.root shown table.shape.own at_root next later (Ok rows) has.stays has.same_root gives told entries used whole tree)
+          ∙ sym (append_assoc has.before rows (map (as_shown shown table.shape.own) (rows_from later entries))))
 
       -- a leaf of which all is given
       pub leaf_streamed : (new : P) (new_root : ℕ) (after : List Sortable) → new_root ≡ at_root → Stays below pages count failures {T = ⊤} (Ok tt) old new
-          → ((before : List Row) → given_of q before ≡ Ok found → given_of q (before ++ rows) ≡ Ok after) → HasStreamed old new q table new_root later after
+          → ((before : List Row) → given_of q before ≡ Ok found → given_of q (before ++ rows) ≡ Ok after) → HasStreamed old new q table shown new_root later after
       leaf_streamed new new_root after same stays given = record {
         stays = stays;
         same_root = same ∙ has.same_root;
@@ -100,40 +111,40 @@ module _ {P K : Type 0} (below : P → K) (tells : K → Bool) (limits : K → L
 
       -- a leaf with a row of which something is refused
       pub leaf_refused : {X : Type 0} (view : X → Rows) (fault : Fault) (result : Result X Fault) → HoldRows → StayRefused → is_row_by_row q ≡ true → IsErrAnd result (λ e. e ≡ fault)
-          → ((before : List Row) → given_of q before ≡ Ok found → IsRefusedBy (given_of q (before ++ rows)) fault) → IsTrue (tells (below old)) → Streams view (pages old) (limits (below old)).page q table result
+          → ((before : List Row) → given_of q before ≡ Ok found → IsRefusedBy (given_of q (before ++ rows)) fault) → IsTrue (tells (below old)) → Streams view (pages old) (limits (below old)).page q table shown result
       leaf_refused view fault (Ok x) hold stay is same refused told them whole holds = absurd same
       leaf_refused view fault (Err e) hold stay is same refused told them whole holds = by (refused has.before has.given)
         where
-          all : (has.before ++ rows) ++ map (as_held table.shape.own) (rows_from later holds.entries) ≡ map as_source them
-          all = sym (more_are told holds.entries holds.used whole holds.tree) ∙ hold table.shape holds.entries them holds.each
+          all : (has.before ++ rows) ++ map (as_shown shown table.shape.own) (rows_from later holds.entries) ≡ map (shown_source shown) them
+          all = sym (more_are told holds.entries holds.used whole holds.tree) ∙ shown_of_rows shown table.shape.own holds.entries them (hold table.shape holds.entries them holds.each)
 
-          by : IsRefusedBy (given_of q (has.before ++ rows)) fault → IsOutside e ⊎ (rows_over q [] (beside_rows q.sources (map as_source them ∷ [])) ≡ Err (refusal_of e))
+          by : IsRefusedBy (given_of q (has.before ++ rows)) fault → IsOutside e ⊎ (rows_over q [] (beside_rows q.sources (map (shown_source shown) them ∷ [])) ≡ Err (refusal_of e))
           by (inl memory) = inl (inl (same ∙ memory))
           by (inr why) =
               inr (ap (λ (l : List Row). rows_over q [] (beside_rows q.sources (l ∷ []))) (sym all)
-              ∙ (refused_over q ((has.before ++ rows) ++ map (as_held table.shape.own) (rows_from later holds.entries)) (refusal_of fault) (stay q (has.before ++ rows) (map (as_held table.shape.own) (rows_from later holds.entries)) (refusal_of fault) is why)
+              ∙ (refused_over q ((has.before ++ rows) ++ map (as_shown shown table.shape.own) (rows_from later holds.entries)) (refusal_of fault) (stay q (has.before ++ rows) (map (as_shown shown table.shape.own) (rows_from later holds.entries)) (refusal_of fault) is why)
               ∙ ap (λ (f : Fault). refusal (refusal_of f)) (sym same)))
             where
               refusal : Refusal → Answer Rows
               refusal r = Err r
 
   -- after the last leaf
-  pub all_streamed : {X : Type 0} (view : X → Rows) (old mid : P) (q : Reading) (table : BoundSource) (at_root : ℕ) (next : Option ℤ) (found : List Sortable) (result : Result X Fault)
-      → HasStreamed old mid q table at_root next found → next ≡ None → HoldRows
-      → ((sources : List (Condition × List Row)) → given_rows q sources ≡ Ok found → AnswersBy view (rows_over q [] sources) result) → IsTrue (tells (below old)) → Streams view (pages old) (limits (below old)).page q table result
-  all_streamed view old mid q table at_root next found result has none hold finish told rows whole holds =
-      answers view (rows_over q [] (beside_rows q.sources (map as_source rows ∷ []))) result
+  pub all_streamed : {X : Type 0} (view : X → Rows) (old mid : P) (q : Reading) (table : BoundSource) (shown : Option (List Place)) (at_root : ℕ) (next : Option ℤ) (found : List Sortable) (result : Result X Fault)
+      → HasStreamed old mid q table shown at_root next found → next ≡ None → HoldRows
+      → ((sources : List (Condition × List Row)) → given_rows q sources ≡ Ok found → AnswersBy view (rows_over q [] sources) result) → IsTrue (tells (below old)) → Streams view (pages old) (limits (below old)).page q table shown result
+  all_streamed view old mid q table shown at_root next found result has none hold finish told rows whole holds =
+      answers view (rows_over q [] (beside_rows q.sources (map (shown_source shown) rows ∷ []))) result
       (subst (λ (l : List Row). AnswersBy view (rows_over q [] (beside_rows q.sources (l ∷ []))) result) all (finish (beside_rows q.sources (has.before ∷ [])) has.given))
     where
-      all : has.before ≡ map as_source rows
+      all : has.before ≡ map (shown_source shown) rows
       all =
           sym (append-nil has.before)
-          ∙ (ap (λ (n : Option ℤ). has.before ++ map (as_held table.shape.own) (rows_from n holds.entries)) (sym none)
-          ∙ (sym (has.are told holds.entries holds.used whole holds.tree) ∙ hold table.shape holds.entries rows holds.each))
+          ∙ (ap (λ (n : Option ℤ). has.before ++ map (as_shown shown table.shape.own) (rows_from n holds.entries)) (sym none)
+          ∙ (sym (has.are told holds.entries holds.used whole holds.tree) ∙ shown_of_rows shown table.shape.own holds.entries rows (hold table.shape holds.entries rows holds.each)))
 
 -- ---- of a database
 
-only_source : (l : Listed) (sources : List Named) (table : BoundSource) → ArePlaced l sources (Tree table ∷ []) → (s : Named) × (sources ≡ s ∷ []) × (option_map place_seen (table_named s.0 l.tables) ≡ Some table)
+pub only_source : (l : Listed) (sources : List Named) (table : BoundSource) → ArePlaced l sources (Tree table ∷ []) → (s : Named) × (sources ≡ s ∷ []) × (option_map place_seen (table_named s.0 l.tables) ≡ Some table)
 only_source l [] table placed = absurd placed
 only_source l (s ∷ []) table placed = (s, refl, placed.0)
 only_source l (s ∷ t ∷ ss) table placed = absurd placed.1
@@ -144,7 +155,7 @@ pub bound_over : {X : Type 0} (view : X → Rows) (law : LoadsBeside) (pages : P
     → (AreWhole size pages → HasRows pages size table.root table.shape (stored.rows_at table.root) → AnswersOrFails view (rows_over reading [] (beside_rows reading.sources (map as_source (stored.rows_at table.root) ∷ []))) result)
     → AnswersOrFails view (answer_within room db reading) result
 bound_over view law pages size l room db stored reading origins table result one placed answered =
-    subst (λ (a : Answer Rows). AnswersOrFails view a result) (sym (answer_over law room db reading (rows ∷ []) each)) (answered stored.shared.whole held)
+    subst (λ (a : Answer Rows). AnswersOrFails view a result) (sym (answer_over law room db reading (rows ∷ []) each)) (answered stored.shared.whole has_rows)
   where
     rows : List Row
     rows = map as_source (stored.rows_at table.root)
@@ -157,5 +168,5 @@ bound_over view law pages size l room db stored reading origins table result one
         ap (rows_of_each room db) only.1
         ∙ ap (λ (a : Answer (List Row)). a then λ x. Ok (x ∷ [])) (tree_rows room stored.rows_at l db only.0.0 table stored.of_listed.lists only.2)
 
-    held : HasRows pages size table.root table.shape (stored.rows_at table.root)
-    held = (has_source pages size l db stored reading.sources 0 only.0 table (ap (λ (them : List Named). slice_get them 0) only.1) only.2).has
+    has_rows : HasRows pages size table.root table.shape (stored.rows_at table.root)
+    has_rows = (has_source pages size l db stored reading.sources 0 only.0 table (ap (λ (them : List Named). slice_get them 0) only.1) only.2).has

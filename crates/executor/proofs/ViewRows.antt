@@ -95,7 +95,7 @@ module _ (finds : FindsListed) (pages : PageMap) (size : ℕ) (l : Listed) (view
           }
 
       -- its rows are what its query comes to
-      rows_are : (db : Database) (name : Name) → Stores pages size l db → table_named name l.tables ≡ None → view_named name l.views ≡ Some view → resolve_query (look_up db) [] view.definition.query ≡ Meant reading []
+      pub rows_are : (db : Database) (name : Name) → Stores pages size l db → table_named name l.tables ≡ None → view_named name l.views ≡ Some view → resolve_query (look_up db) [] view.definition.query ≡ Meant reading []
           → rows_of room db name ≡ (answer_within less db reading then λ rows. Ok (plain_rows rows))
       rows_are db name held no_table named bound =
           ap (λ (n : ℕ). rows_of n db name) room_is

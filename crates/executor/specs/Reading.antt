@@ -1,5 +1,5 @@
 -- What a query answers (SQL As Understood By SQLite, "SELECT").
-use Rattle.std.specs.Prelude.{◌≡◌, ◌⊎◌, ◌≤◌, ℕ, true, false, List, [], ◌∷◌, filter, length, map, Contains, MatchResult, Option, Some, None, Result, Ok, Err, option_and_then, slice_get, slice_set}
+use Rattle.std.specs.Prelude.{◌≡◌, ◌⊎◌, ◌≤◌, ◌<◌, ℕ, true, false, List, [], ◌∷◌, filter, length, map, Contains, MatchResult, Option, Some, None, Result, Ok, Err, option_and_then, slice_get, slice_set}
 use Rattle.std.specs.List.{AllByRecursion}
 use Rattle.sqlval.specs.Faults.{IsOutside}
 use Rattle.sqlval.specs.Refusals.{Answer, ◌then◌, all_answers, refusal_of}
@@ -8,10 +8,11 @@ use Rattle.sqlval.specs.declared.value.Value.{Value}
 use Rattle.pages.specs.Map.{PageMap, AreWhole}
 use Rattle.sql_syntax.specs.declared.query.Query.{Query}
 use Rattle.catalog.specs.Database.{Database, Name}
-use Rattle.catalog.specs.Listed.{Listed, table_named, view_named}
+use Rattle.catalog.specs.Listed.{Listed, Lists, table_named, view_named}
 use Rattle.catalog.specs.declared.tables.Table.{Table}
 use Rattle.catalog.specs.declared.tables.View.{View}
 use Rattle.query_terms.specs.Values.{Row}
+use Rattle.query_terms.specs.declared.tree.Place.{Place}
 use Rattle.query_names.specs.Checked.{Checked, Meant, faults}
 use Rattle.query_names.specs.Queries.{resolve_query}
 use Rattle.query_names.specs.Readings.{rows_over}
@@ -19,7 +20,7 @@ use Rattle.query_names.specs.Views.{answer_of, loaded, look_up, rows_of}
 use Rattle.query_names.specs.Known.{IsKnownIn}
 use Rattle.query_names.specs.declared.queries.BoundSource.{BoundSource}
 use Rattle.query_names.specs.declared.queries.Origin.{Origin}
-use Rattle.query_names.specs.declared.queries.Origin.TheVariants.{Tree}
+use Rattle.query_names.specs.declared.queries.Origin.TheVariants.{Tree, View as the_view}
 use Rattle.query_names.specs.declared.reading.Reading.{Reading}
 use Rattle.query_plan.specs.Searching.{is_found}
 use Rattle.query_plan.specs.declared.searching.Search.{Search}
@@ -28,8 +29,9 @@ use Rattle.query_bind.specs.declared.querying.BoundReading.{BoundReading}
 use Rattle.query_answer.specs.Nesting.{Named, beside_rows}
 use Rattle.query_answer.specs.Parts.{is_row_by_row}
 use Rattle.query_answer.specs.Searches.{IsScannedAt, IsSearchAt}
+use Rattle.query_answer.specs.Shown.{ShowsPlaces}
 use Rattle.row_scan.specs.Rows.{TableRow}
-use Rattle.row_scan.specs.Sources.{as_source}
+use Rattle.row_scan.specs.Sources.{as_source, shown_source}
 use Rattle.row_scan.specs.Trees.{AnswersOrFails, HasRows}
 use Rattle.row_search.specs.Found.{HasIndexed}
 use Rattle.db_pages.specs.Stored.{Stores}
@@ -156,11 +158,27 @@ IsStreamed tables bound place = (bound.origins ≡ Tree place ∷ []) × (is_row
 abbrev pub IsLoaded : List Table → BoundReading → Type 0
 IsLoaded tables bound = (place : BoundSource) → bound.origins ≡ Tree place ∷ [] → is_row_by_row bound.reading ≡ true → IsSearched tables bound.reading 0
 
--- What a call answered, seen by `view`, is what a query comes to over the rows of its only source, where its tree has some; or one of its
--- refusals.
-abbrev pub Streams : {X : Type 0} → (X → List (List Value)) → PageMap → ℕ → Reading → BoundSource → Result X Fault → Type 0
-Streams view pages size reading table result = (rows : List TableRow) → AreWhole size pages → HasRows pages size table.root table.shape rows
-    → AnswersOrFails view (rows_over reading [] (beside_rows reading.sources (map as_source rows ∷ []))) result
+-- A view's query has a table as its one source, which stands here, and shows of each of its rows the values at these places.
+pub record ShowsTable (l : Listed) (view : View) (table : BoundSource) (places : List Place) : Type 0 where
+  pub reading : Reading
+  pub named : (rows_at : ℕ → List TableRow) (db : Database) → Lists rows_at l db → resolve_query (look_up db) [] view.definition.query ≡ Meant reading []
+  pub placed : ArePlaced l reading.sources (Tree table ∷ [])
+  pub shows : ShowsPlaces reading places
+
+-- the query is row by row, and its only source is a view that shows such values of a table; and there is room for a view
+pub record IsStreamedView (l : Listed) (room : ℕ) (bound : BoundReading) (table : BoundSource) (places : List Place) : Type 0 where
+  pub some_room : 0 < room
+  pub only : bound.origins ≡ the_view ∷ []
+  pub row_by_row : is_row_by_row bound.reading ≡ true
+  pub view : View
+  pub is : source_view l.views bound.reading.sources 0 ≡ Some view
+  pub shows : ShowsTable l view table places
+
+-- What a call answered, seen by `view`, is what a query comes to over what is shown of the rows of its only source, where its tree has some; or one
+-- of its refusals.
+abbrev pub Streams : {X : Type 0} → (X → List (List Value)) → PageMap → ℕ → Reading → BoundSource → Option (List Place) → Result X Fault → Type 0
+Streams view pages size reading table shown result = (rows : List TableRow) → AreWhole size pages → HasRows pages size table.root table.shape rows
+    → AnswersOrFails view (rows_over reading [] (beside_rows reading.sources (map (shown_source shown) rows ∷ []))) result
 
 -- what a query comes to, with room for so many views one within another
 abbrev pub answer_within : ℕ → Database → Reading → Answer (List (List Value))

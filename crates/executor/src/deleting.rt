@@ -16,7 +16,7 @@ use query_bind::bind_where;
 use sql_syntax::Delete;
 use sqlval::{Fault, Name, Object, R};
 use std::alloc::Global;
-use trigger::only_tables_set_nothing_off;
+use trigger::{delete_sets_off_nothing, only_tables_set_nothing_off};
 
 /// The table of a name. (`NoSuch` if none has it.)
 pub(crate) fn listed_table<'a>(alloc: Global, catalog: &'a Catalog, name: &Name) -> R<&'a Table>
@@ -50,6 +50,7 @@ pub fn delete_rows<P: WritePages>(
     other_rows_are_listed();
     named_databases_are_one();
     only_tables_set_nothing_off();
+    delete_sets_off_nothing();
     if is_view(catalog, &delete.table) {
         return Err(refuse_delete(alloc, catalog, delete));
     }

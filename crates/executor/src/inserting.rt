@@ -15,7 +15,7 @@ use query_names::{BoundInsert, bind_target};
 use sql_syntax::Insert;
 use sqlval::R;
 use std::alloc::Global;
-use trigger::only_tables_set_nothing_off;
+use trigger::{insert_sets_off_nothing, only_tables_set_nothing_off};
 
 /// Makes the rows of an INSERT that sets no trigger off: all are known before the first is stored. (What `refuse_insert` says, of a view; what
 /// `bind_target`, `given_rows` and `insert_rows` refuse; then some pages may have changed.)
@@ -36,6 +36,7 @@ pub fn insert<P: WritePages>(
     named_databases_are_one();
     listed_indexes_are_found();
     only_tables_set_nothing_off();
+    insert_sets_off_nothing();
     if is_view(catalog, &insert.table) {
         return Err(refuse_insert(alloc, catalog, insert));
     }

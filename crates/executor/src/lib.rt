@@ -10,6 +10,7 @@ mod kept;
 mod reading;
 mod refusing;
 mod rows;
+mod shown;
 mod triggers;
 mod updating;
 mod views;

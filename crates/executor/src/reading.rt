@@ -1,6 +1,6 @@
 //! The rows of a query.
 
-ghost use Rattle.std.specs.Prelude.{◌≡◌, ◌∷◌, [], false, length, map, option_map, true, IfErr, IfNone, IfOk, IfSome, IsTrue};
+ghost use Rattle.std.specs.Prelude.{◌≡◌, ◌+◌, ◌∷◌, [], false, length, map, option_map, true, IfErr, IfNone, IfOk, IfSome, IsTrue};
 ghost use Rattle.sqlval.specs.Faults.{IsOrMemory};
 ghost use Rattle.pages.specs.Calls.{Stays};
 ghost use Rattle.catalog.specs.Database.{Database};
@@ -11,10 +11,12 @@ ghost use Rattle.query_names.specs.declared.queries.Origin.TheVariants as source
 ghost use Rattle.query_answer.specs.Answers.{HaveWidth};
 ghost use Rattle.query_answer.specs.Parts.{is_row_by_row as row_by_row};
 ghost use Rattle.row_scan.specs.Rows.{values_of};
-ghost use Rattle.executor.specs.Reading.{AnswersAsked, AnswersBound, AnswersRead, IsLoaded, IsScanned, IsSearched, IsStreamed, LoadsNeeded, LoadsSought, LoadsSource, LoadsSources, ReadsView, Streams, source_table, source_view};
+ghost use Rattle.row_scan.specs.Sources.{places_shown};
+ghost use Rattle.executor.specs.Reading.{AnswersAsked, AnswersBound, AnswersRead, IsLoaded, IsScanned, IsSearched, IsStreamed, LoadsNeeded, LoadsSought, LoadsSource, LoadsSources, ReadsView, Streams, source_table};
 ghost use Rattle.db_pages.specs.Stored.{Stores};
 ghost use Rattle.executor.specs.Works.{read_on};
 
+use crate::shown::{only_tree, shown_table, streamed_view, view_of};
 use catalog::{Catalog, Table, View, listed_tables_are_found};
 use pages::Pages;
 use query_answer::{
@@ -24,12 +26,13 @@ use query_answer::{
 use query_bind::{BoundReading, bind_reading};
 use query_filter::Filter;
 use query_names::{BoundSource, Origin, Reading, sources_are_known, views_are_known};
-use query_terms::SourceRow;
-use row_scan::{Rows, next_source_rows, rows_are_held, source_rows};
+use query_terms::{Place, SourceRow};
+use row_scan::{Rows, next_shown_rows, rows_are_held, shown_rows, source_rows};
 use row_search::found_rows;
 use sql_syntax::Query;
 use sqlval::{Fault, Many, R, Value};
 use std::alloc::Global;
+use std::rc::Rc;
 use tree_table::{Batch, Cursor};
 
 /// How many views may stand one within another.
@@ -73,18 +76,19 @@ fn needed_rows<P: Pages>(
     }
 }
 
-/// The rows of a query that is row by row: its source's tree is read leaf by leaf, and no more of it is held than one leaf. (What
-/// `next_source_rows`, `give_rows` and `finish` refuse.)
+/// The rows of a query that is row by row: the tree of a table is read leaf by leaf, and no more of it is held than one leaf. Its source has the rows
+/// of the table, or what is shown of them. (What `next_shown_rows`, `give_rows` and `finish` refuse.)
 fn streamed_rows<P: Pages>(
     alloc: Global,
     pages: &mut P,
     reading: &Reading,
     table: BoundSource,
+    shown: Option<&Rc<Vec<Place>>>,
 ) -> R<Rows>
     requires { row_by_row reading.now ≡ true }
     ensures answered { IsTrue (P.Pages.tells (P.Pages.below pages.old))
         → Streams (λ rows. map values_of rows.items) (P.Pages.map pages.old)
-        (P.Pages.limits (P.Pages.below pages.old)).page reading.now table result }
+        (P.Pages.limits (P.Pages.below pages.old)).page reading.now table (places_shown shown.entry) result }
     ensures wide { IfOk result (λ rows. HaveWidth (length reading.now.results) (map values_of rows.items)) }
     ensures stays { Stays P.Pages.below P.Pages.map P.Pages.count P.Pages.failures result pages.old pages.new }
 {
@@ -96,7 +100,15 @@ fn streamed_rows<P: Pages>(
     let mut batch = Batch::new(alloc);
     let mut cursor = Cursor::new(table.root);
     'leaves: while cursor.next.is_some() {
-        rows = next_source_rows(alloc, pages, &mut cursor, &mut batch, table.shape.own, rows)?;
+        rows = next_shown_rows(
+            alloc,
+            pages,
+            &mut cursor,
+            &mut batch,
+            table.shape.own,
+            shown,
+            rows,
+        )?;
         give_rows(alloc, reading, &filter, &rows, &mut found)?;
     }
     finish(alloc, reading, found)
@@ -116,21 +128,6 @@ fn seeks(alloc: Global, catalog: &Catalog, reading: &Reading, source: usize) -> 
     }
 }
 
-/// The table that a query's only source is, where it has one source and that is a table.
-fn only_tree(origins: &[Origin]) -> Option<BoundSource>
-    ensures is { IfSome result (λ place. origins.now ≡ source.Tree place ∷ []) }
-    ensures none { IfNone result ((place : Place) → origins.now ≡ source.Tree place ∷ [] → ⊥) }
-{
-    let (first, rest) = origins.split_first()?;
-    if !rest.is_empty() {
-        return None;
-    }
-    match *first {
-        Origin::Tree(place) => Some(place),
-        Origin::View => None,
-    }
-}
-
 /// The only source of a query that is row by row, where it is a table of which the query seeks nothing. (`Memory`.)
 fn streamed_source(alloc: Global, catalog: &Catalog, bound: &BoundReading) -> R<Option<BoundSource>>
     ensures is { IfOk result (λ found. IfSome found (IsStreamed (tables_of catalog.now) bound.now)) }
@@ -144,15 +141,6 @@ fn streamed_source(alloc: Global, catalog: &Catalog, bound: &BoundReading) -> R<
         return Ok(None);
     }
     Ok(Some(place))
-}
-
-/// The view that a query's source of a number is, if there is one of its name.
-fn view_of<'a>(catalog: &'a Catalog, reading: &Reading, source: usize) -> Option<&'a View>
-    ensures { option_map (λ view. view.now) result ≡ source_view
-        (views_of catalog.now) reading.now.sources source }
-{
-    let (name, _) = reading.sources.as_slice().get(source)?;
-    catalog.view(name.as_str())
 }
 
 /// The rows of an answer, without rowids, as those of a source. (`Memory` alone.)
@@ -184,11 +172,35 @@ pub(crate) fn view_rows<P: Pages>(
 {
     views_are_known();
     listed_tables_are_found();
+    rows_are_loaded_beside_conditions();
     if room == 0 {
         return Err(Fault::TooLong);
     }
+    match shown_table(alloc, catalog, view)? {
+        Some(shown) => shown_rows(alloc, pages, shown.table, Some(&shown.places)),
+        None => answered_rows(alloc, pages, catalog, room - 1, view),
+    }
+}
+
+/// The rows that the query of a view answers, as those of a source, where up to `room` views stand within it. (What `bind_reading` and `rows_within`
+/// refuse.)
+#[cycle(rows_within)]
+fn answered_rows<P: Pages>(
+    alloc: Global,
+    pages: &mut P,
+    catalog: &Catalog,
+    room: usize,
+    view: &View,
+) -> R<Many<SourceRow>>
+    ensures read { IsTrue (P.Pages.tells (P.Pages.below pages.old))
+        → ReadsView (P.Pages.map pages.old) (P.Pages.limits (P.Pages.below pages.old)).page
+        (listed_in catalog.now) (room + 1) view.now result }
+    ensures stays { Stays P.Pages.below P.Pages.map P.Pages.count P.Pages.failures result pages.old pages.new }
+{
+    views_are_known();
+    listed_tables_are_found();
     let bound = bind_reading(alloc, catalog, &view.definition.query)?;
-    let rows = rows_within(alloc, pages, catalog, room - 1, &bound)?;
+    let rows = rows_within(alloc, pages, catalog, room, &bound)?;
     made_rows(alloc, rows)
 }
 
@@ -268,7 +280,7 @@ fn loaded_rows<P: Pages>(
 }
 
 /// The rows of a query whose names are looked up, where up to `room` views stand one within another. (What `streamed_source`, `streamed_rows`
-/// and `loaded_rows` refuse.)
+/// and `loaded_rows` refuse; `Memory`.)
 #[cycle(rows_within)]
 fn rows_within<P: Pages>(
     alloc: Global,
@@ -286,8 +298,21 @@ fn rows_within<P: Pages>(
     ensures stays { Stays P.Pages.below P.Pages.map P.Pages.count P.Pages.failures result pages.old pages.new }
 {
     rows_are_loaded_beside_conditions();
-    match streamed_source(alloc, catalog, bound)? {
-        Some(place) => streamed_rows(alloc, pages, &bound.reading, place),
+    listed_tables_are_found();
+    views_are_known();
+    if let Some(place) = streamed_source(alloc, catalog, bound)? {
+        return streamed_rows(alloc, pages, &bound.reading, place, None);
+    }
+    match streamed_view(alloc, catalog, room, bound)? {
+        Some(shown) => {
+            streamed_rows(
+                alloc,
+                pages,
+                &bound.reading,
+                shown.table,
+                Some(&shown.places),
+            )
+        }
         None => loaded_rows(alloc, pages, catalog, room, bound),
     }
 }

@@ -2,6 +2,7 @@ mod Sorting
 mod RowOrder
 mod Turning
 mod Looping
+mod Gone
 mod SameValues
 mod Replacing
 pub mod Rows

@@ -104,7 +104,7 @@ module _ (old new : PageMap) (size root : ℕ) (columns : Columns) (row : Row) w
 no_fresh : (a n : ℕ) → fresh a a n ≡ 0
 no_fresh a n = grind (arith, common_steps)
 
-unmoved : (pages : PageMap) (used free : List ℕ) → Moves pages pages used free used free
+pub unmoved : (pages : PageMap) (used free : List ℕ) → Moves pages pages used free used free
 unmoved pages used free = record {
   longer = omega arith;
   counts = λ n. (let none = no_fresh (length pages) n in omega (arith, none));
@@ -112,10 +112,10 @@ unmoved pages used free = record {
   whole = λ size whole. whole;
 }
 
-keeps_all : (pages : PageMap) → KeepsHeader pages pages
+pub keeps_all : (pages : PageMap) → KeepsHeader pages pages
 keeps_all pages header is = (header.freelist_trunk, header.freelist_count, is)
 
-keeps_then : (a b c : PageMap) → KeepsHeader a b → KeepsHeader b c → KeepsHeader a c
+pub keeps_then : (a b c : PageMap) → KeepsHeader a b → KeepsHeader b c → KeepsHeader a c
 keeps_then a b c first then header is = (let now = first header is in then (record header { freelist_trunk = now.0; freelist_count = now.1 }) now.2)
 
 front_apart : (row : Row) (xs ys : List Row) → IsApart row (xs ++ ys) → IsApart row xs

@@ -1,5 +1,6 @@
 pub mod Entries
 pub mod Keeping
+pub mod Taking
 pub mod Replacing
 pub mod Laws
 pub mod Alone

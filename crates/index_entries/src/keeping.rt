@@ -5,11 +5,15 @@ ghost use Rattle.pages.specs.Calls.{Causes};
 ghost use Rattle.index_entries.specs.Keeping.{AddsEntries, TakesEntries, TakesEntry, columns_in, row_in};
 
 use crate::columns::{collations_of, entry_of};
+use crate::taking::take_batch;
 use catalog::{IndexColumn, TableRow};
 use pages::WritePages;
 use sqlval::{Collation, Damage, Fault, R};
 use std::alloc::Global;
 use tree_index::{insert, remove};
+
+/// Of how many rows the entries are in memory at once.
+const BATCH: usize = 256;
 
 /// Puts the entry of a row into an index's tree. (What `insert` refuses; `Damaged(Index, root)` if it is there.)
 pub(crate) fn add_entry<P: WritePages>(
@@ -101,8 +105,9 @@ pub fn take_entries<P: WritePages>(
 {
     let under = collations_of(alloc, columns)?;
     let mut left = rows;
-    'rows: while let [row, rest @ ..] = left {
-        take_entry(alloc, pages, root, columns, &under, row)?;
+    'batches: while !left.is_empty() {
+        let (batch, rest) = left.split_at(left.len().min(BATCH));
+        take_batch(alloc, pages, root, columns, &under, batch)?;
         left = rest;
     }
     Ok(())

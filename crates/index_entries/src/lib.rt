@@ -7,6 +7,7 @@ mod keeping;
 mod laws;
 mod others;
 mod replacements;
+mod taking;
 
 pub use alone::{add_alone, replace_alone};
 pub use columns::{collations_of, key_of};

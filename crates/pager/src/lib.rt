@@ -17,6 +17,6 @@ pub use laws::{
     marks_are_sound, pages_are_mapped, puts_change_maps, readers_are_told, soundness_is_tested,
     writers_are_told,
 };
-pub use reading::{header_of, read_page};
+pub use reading::header_of;
 pub use sights::{Reading, Viewing, Writing};
 pub use writer::Writer;

@@ -42,7 +42,7 @@ pub(crate) fn read_into<D: Disk + Drop>(
 }
 
 /// A page of a snapshot.
-pub fn read_page<D: Disk + Drop>(
+pub(crate) fn read_page<D: Disk + Drop>(
     alloc: Global,
     log: &mut Log<D>,
     snapshot: Snapshot,

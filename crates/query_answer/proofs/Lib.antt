@@ -18,5 +18,6 @@ pub mod Places
 pub mod PlacesOfRows
 pub mod Quiet
 pub mod Runs
+pub mod ShownRows
 pub mod Sought
 pub mod Waits

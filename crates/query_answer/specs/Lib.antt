@@ -6,4 +6,5 @@ pub mod Nesting
 pub mod Numbers
 pub mod Parts
 pub mod Searches
+pub mod Shown
 pub mod Sorting

@@ -11,6 +11,7 @@ mod nesting;
 mod parts;
 mod results;
 mod searches;
+mod shown;
 mod sorting;
 
 ghost use Rattle.query_answer.specs.Answers.{LoadsBeside};
@@ -20,6 +21,7 @@ pub use answering::{answer, finish};
 pub use parts::{GivenRows, give_rows, is_row_by_row, rows_are_given_in_parts};
 use query_plan::other_rows_fail;
 pub use searches::search_at;
+pub use shown::shown_places;
 
 /// Lists of rows that are loaded by the sources' names stand beside the sources' conditions.
 pub fn rows_are_loaded_beside_conditions()

@@ -13,6 +13,7 @@ mod places;
 mod raising;
 mod rows;
 mod sameness;
+mod shown;
 mod stored;
 mod texts;
 mod totals;

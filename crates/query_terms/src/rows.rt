@@ -7,6 +7,7 @@ ghost use Rattle.query_terms.specs.Rows.{picked_rows, row_of, seen};
 ghost use Rattle.query_terms.specs.Values as meant;
 
 use crate::places::RowPlaces;
+use crate::shown::ShownRow;
 use crate::stored::StoredRow;
 use crate::tree::Place;
 use record::Fields;
@@ -14,6 +15,7 @@ use smallvec::SmallVec;
 use sqlval::{Field, Many, Value};
 use std::alloc::{AllocError, Global};
 use std::marker::Model;
+use std::rc::Rc;
 
 /// A row whose values were made and lie in no record.
 #[derive(Drop)]
@@ -26,6 +28,7 @@ struct MadeRow {
 #[derive(Drop)]
 enum Cells {
     Stored(StoredRow),
+    Shown(ShownRow),
     Made(MadeRow),
 }
 
@@ -36,13 +39,15 @@ pub struct SourceRow {
 }
 
 impl Model for SourceRow {
+    ghost use Rattle.query_terms.specs.Stored.{shown_row};
     ghost use Rattle.query_terms.specs.Values.{Row};
-    ghost use Rattle.query_terms.specs.declared.rows.Cells.TheVariants.{Stored, Made};
+    ghost use Rattle.query_terms.specs.declared.rows.Cells.TheVariants.{Stored, Shown, Made};
 
     ghost Value = { Row };
 
     ghost view = { λ row. elim row.cells [
       | Stored stored ↦ stored
+      | Shown shown ↦ shown_row shown.places.value.items shown.row
       | Made made ↦ record { rowid = made.rowid; values = made.values }
     ] };
 }
@@ -85,7 +90,7 @@ fn copies_of(alloc: Global, fields: &[Field<'_>]) -> Result<Many<Value>, AllocEr
 impl SourceRow {
     ghost use Rattle.std.specs.Prelude.{IfOk, OnOk};
     ghost use Rattle.record.specs.Columns.{values_in};
-    ghost use Rattle.query_terms.specs.Stored.{integer_in, rowid_value, with_own};
+    ghost use Rattle.query_terms.specs.Stored.{integer_in, rowid_value, shown_row, with_own};
 
     /// The row of the record in these bytes, of which it keeps a copy. `own` is the place of the rowid's own column: there the value is the rowid,
     /// whatever the record says. (See `record::value_at`.)
@@ -100,6 +105,26 @@ impl SourceRow {
     {
         Ok(SourceRow {
             cells: Cells::Stored(StoredRow::new(alloc, rowid, own, bytes)?),
+        })
+    }
+
+    /// What a view shows of the row of the record in these bytes, of which it keeps a copy: the values at these places, in their order.
+    pub fn shown(
+        alloc: Global,
+        rowid: Option<i64>,
+        own: Option<usize>,
+        bytes: &[u8],
+        places: &Rc<Vec<Place>>,
+    ) -> Result<SourceRow, AllocError>
+        ensures { IfOk result (λ row. row ≡ shown_row places.now.value.items (record
+            { rowid = rowid_value rowid; values = with_own own (rowid_value rowid) (values_in bytes.now) })) }
+    {
+        let row = StoredRow::new(alloc, rowid, own, bytes)?;
+        Ok(SourceRow {
+            cells: Cells::Shown(ShownRow {
+                row,
+                places: places.clone()?,
+            }),
         })
     }
 
@@ -125,8 +150,29 @@ impl SourceRow {
     {
         match &mut self.cells {
             Cells::Stored(stored) => stored.refill(rowid, own, bytes),
-            Cells::Made(_) => {
+            Cells::Shown(_) | Cells::Made(_) => {
                 *self = SourceRow::new(alloc, rowid, own, bytes)?;
+                Ok(())
+            }
+        }
+    }
+
+    /// The row becomes what a view shows of that of the record in these bytes, in the memory that it has where they fit.
+    pub fn refill_shown(
+        &mut self,
+        alloc: Global,
+        rowid: Option<i64>,
+        own: Option<usize>,
+        bytes: &[u8],
+        places: &Rc<Vec<Place>>,
+    ) -> Result<(), AllocError>
+        ensures { OnOk result (self.new ≡ shown_row places.now.value.items (record
+            { rowid = rowid_value rowid; values = with_own own (rowid_value rowid) (values_in bytes.now) })) }
+    {
+        match &mut self.cells {
+            Cells::Shown(shown) => shown.refill(rowid, own, bytes, places),
+            Cells::Stored(_) | Cells::Made(_) => {
+                *self = SourceRow::shown(alloc, rowid, own, bytes, places)?;
                 Ok(())
             }
         }
@@ -148,6 +194,7 @@ impl SourceRow {
     {
         match &self.cells {
             Cells::Stored(stored) => stored.rowid_field(),
+            Cells::Shown(_) => Field::Null,
             Cells::Made(made) => made.rowid.as_field(),
         }
     }
@@ -158,6 +205,7 @@ impl SourceRow {
     {
         match &self.cells {
             Cells::Stored(stored) => stored.read_fields(fields),
+            Cells::Shown(shown) => shown.read_fields(fields),
             Cells::Made(made) => lend(made.values.as_slice(), fields),
         }
     }
@@ -187,6 +235,7 @@ impl SourceRow {
     {
         match &self.cells {
             Cells::Stored(stored) => stored.column(index),
+            Cells::Shown(shown) => shown.column(index),
             Cells::Made(made) => field_at(made.values.as_slice(), index),
         }
     }

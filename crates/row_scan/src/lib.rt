@@ -6,5 +6,7 @@ mod sources;
 mod tree;
 
 pub use rows::Rows;
-pub use sources::{next_source_rows, rows_are_held, source_rows, source_rows_at};
+pub use sources::{
+    next_shown_rows, next_source_rows, rows_are_held, shown_rows, source_rows, source_rows_at,
+};
 pub use tree::check_tree_rows;

@@ -26,7 +26,7 @@ use Rattle.tree_check.specs.Tails.{Chain, IsTailOn, IsTail, IsEntryOf, AddsTail,
 use Rattle.tree_check.specs.declared.chains.Tail.{Tail}
 use Rattle.tree_check.proofs.Links.{pages_on}
 use Rattle.tree_check.proofs.Parting.{IsOf, IsAs, both_appended, checks_as, nothing_left}
-use Rattle.tree_check.proofs.Payloads.{least_in_index, payload_chains, chains_payload}
+use Rattle.tree_check.proofs.Payloads.{least_in_index, payload_chains, chains_payload, short_whole}
 use Rattle.tree_check.proofs.Turns.{IsInTurn, then_turns, first_stops}
 
 -- ---- a payload
@@ -45,6 +45,11 @@ module _ (map : PageMap) (size : ℕ) (said : Local) (tails : List Tail) (large 
   -- a payload is checked as its chain is
   pub payload_checks : (old new : List Bool) (result : Result ⊤ Fault) → Checks (Pairwise (IsTailOn map size) tails) (flat_map pages_on) old new result → Checks (IsEntryOf map size said) pages_on old new result
   payload_checks old new result check = checks_as (Pairwise (IsTailOn map size) tails) (IsEntryOf map size said) (flat_map pages_on) pages_on made_of over old new result check
+
+-- one without a tail is what lies in its cell
+pub payload_whole : (map : PageMap) (size : ℕ) (said : Local) (tails : List Tail) → 512 ≤ size → IsTail size (index_most size) said tails → tails ≡ [] → (whole : Chain) → IsEntryOf map size said whole → said.bytes ≡ whole.bytes
+payload_whole map size said tails large tail none whole is =
+    short_whole map size (index_most size) (least_in_index size large) said whole.bytes whole.pages is (subst (IsTail size (index_most size) said) none tail)
 
 held_as : (size : ℕ) (said : Local) (usable most : ℕ) → usable ≡ size → most ≡ index_most size → length said.bytes ≡ held_size size (index_most size) said.size → length said.bytes ≡ held_size usable most said.size
 held_as size said usable most usable_is most_is held =
@@ -110,6 +115,20 @@ pub entry_stops : {X : Type 0} (view : X → List ℕ) (map : PageMap) (size : �
 entry_stops view map size said columns last now old new then fault (Ok done) check is = absurd is
 entry_stops view map size said columns last now old new then fault (Err e) check is = λ held end of free follow.
     subst IsOutside (sym is) (check (record { bytes = held.payload; pages = held.pages }) (record { long = of.size; is = of.payload }) free)
+
+-- ---- the last entry, elsewhere
+
+module _ {X : Type 0} (Is : X → Type 0) (pages : X → List ℕ) (entries : X → List Entry) (columns : List Collation) (last : List Value) (old : List Bool) where
+  -- a refusal is handed on
+  pub handed_on : (mid now : List Value) (new then : List Bool) (fault : Fault) (result : Result ⊤ Fault) → ChecksOrdered Is pages entries columns last mid old new (Err fault) → IsErrAnd result (λ e. e ≡ fault)
+      → ChecksOrdered Is pages entries columns last now old then result
+  handed_on mid now new then fault (Ok done) check is = absurd is
+  handed_on mid now new then fault (Err e) check is = λ x end of free follow. subst IsOutside (sym is) (check x end of free follow)
+
+  -- memory was short
+  pub not_kept : (now : List Value) (then : List Bool) (result : Result ⊤ Fault) → IsErrAnd result (λ e. e ≡ Memory) → ChecksOrdered Is pages entries columns last now old then result
+  not_kept now then (Ok done) is = absurd is
+  not_kept now then (Err e) is = λ x end of free follow. inl is
 
 -- ---- entries one after the other
 

@@ -65,6 +65,19 @@ module _ (map : PageMap) (size most : ℕ) (low : least size ≤ most) (said : L
       let empty : pages ≡ [] = none_left map size _ pages is.is.chain none in
       record { chains = []; on = tt; as_often = λ n. sym (ap (occurs n) empty) }
 
+  -- one that lies whole in its cell is what lies there
+  pub short_whole : (payload pages : List ℕ) → IsCellOf map size most said payload pages → IsShort size most said → said.bytes ≡ payload
+  short_whole payload pages is short =
+      let le : length payload ≤ most = (let a = is.long in let b = short.fits in omega (arith, a, b)) in
+      let all = local_whole size most (length payload) le in
+      let none : length (drop (local_size size most (length payload)) payload) ≡ 0 =
+      length-drop (local_size size most (length payload)) payload ∙ omega (arith, all) in
+      let empty : pages ≡ [] = none_left map size _ pages is.is.chain none in
+      is.is.parts
+      ∙ (ap (λ (ps : List ℕ). take (local_size size most (length payload)) payload ++ first_link ps) empty
+      ∙ (append-nil (take (local_size size most (length payload)) payload)
+      ∙ (ap (λ (n : ℕ). take n payload) all ∙ take_all (length payload) payload (omega arith))))
+
   first_page : (tail : Tail) → tail.first < 2 ^ 32 → (bytes pages : List ℕ) → to_be_bytes w32 tail.first ≡ first_link pages → IsChain map size bytes pages → next_of pages ≡ tail.first
   first_page tail near bytes [] links chain = absurd (let none = ap length links in omega (arith, none))
   first_page tail near bytes (page ∷ pages) links chain =

@@ -1,5 +1,6 @@
 -- Payloads that go on over overflow pages.
-use Rattle.std.specs.Prelude.{◌≡◌, ◌≤◌, ◌<◌, ◌-◌, ◌^◌, ℕ, ℤ, Bool, List, [], ◌∷◌, ◌++◌, length, ⊤, Result, Ok, Err, MatchResult}
+use Rattle.std.specs.Prelude.{◌≡◌, ◌≤◌, ◌<◌, ◌-◌, ◌^◌, ℕ, ℤ, Bool, List, [], ◌∷◌, ◌++◌, length, ⊤, MatchResult, Option, Some, None, Result, Ok, Err, Vec}
+use Rattle.std.specs.declared.alloc.Global.{Global}
 use Rattle.std.specs.Int.{w32, to_be_bytes}
 use Rattle.sqlval.specs.declared.fault.Fault.{Fault}
 use Rattle.sqlval.specs.declared.fault.Fault.TheVariants.{Memory}
@@ -61,6 +62,11 @@ AddsTail usable most local old new result =
     MatchResult result (λ done. (tails : List Tail) × (new ≡ old ++ tails) × IsTail usable most local tails) (λ fault. fault ≡ Memory)
 
 -- ---- payloads
+
+-- the bytes of a payload: those of a copy or, where there is none, those that lie in its cell
+abbrev pub payload_in : List ℕ → Option (Vec ℕ Global) → List ℕ
+payload_in held None = held
+payload_in held (Some copy) = copy.items
 
 -- A cell tells how long a payload is, and begins it; it goes on over these pages.
 pub record IsCellOf (map : PageMap) (size most : ℕ) (said : Local) (payload pages : List ℕ) : Type 0 where

@@ -6,6 +6,7 @@ mod bytes;
 mod chains;
 mod checking;
 mod entries;
+mod last;
 mod leaves;
 mod lists;
 mod local;

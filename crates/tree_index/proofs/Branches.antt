@@ -74,10 +74,10 @@ module _ (old : PageMap) (size number ways : ℕ) (columns : List Collation) (x 
   abbrev pub kid : Tree depth
   kid = tree_at place t.kids t.last
 
-  abbrev left : List Entry
+  abbrev pub left : List Entry
   left = left_at (entries_of depth) one place t.kids t.last
 
-  abbrev right : List Entry
+  abbrev pub right : List Entry
   right = right_at (entries_of depth) one place t.kids t.last
 
   abbrev others : List ℕ
@@ -89,7 +89,7 @@ module _ (old : PageMap) (size number ways : ℕ) (columns : List Collation) (x 
   fewer : AllByRecursion (λ e. not_less columns x e ≡ false) right
   fewer = right_greater (entries_of depth) columns x t.kids t.last (not_less_first columns x (entries_of (suc depth) t) under.sorted) other
 
-  split : entries_of (suc depth) t ≡ left ++ (entries_of depth kid ++ right)
+  pub split : entries_of (suc depth) t ≡ left ++ (entries_of depth kid ++ right)
   split = row_split (entries_of depth) one place t.kids t.last
 
   joined : (window : Row) → IsJoined (pages_in depth window.0 window.1) others (pages_in depth (replaced place window t.kids t.last).0 (replaced place window t.kids t.last).1)
@@ -174,9 +174,10 @@ module _ (old : PageMap) (size number ways : ℕ) (columns : List Collation) (x 
 
   -- ---- one page in place of the child, which kept its number
 
-  pub put_above : (edit : List Entry → List Entry) → IsLocalTo columns x edit → (mid : PageMap) → IsPut old mid size (top depth kid) depth (edit (entries_of depth kid)) (pages_of depth kid) free
+  pub put_parts : (edit : List Entry → List Entry) → edit (entries_of (suc depth) t) ≡ left ++ (edit (entries_of depth kid) ++ right)
+      → (mid : PageMap) → IsPut old mid size (top depth kid) depth (edit (entries_of depth kid)) (pages_of depth kid) free
       → IsPut old mid size number (suc depth) (edit (entries_of (suc depth) t)) (pages_of (suc depth) t) free
-  put_above edit local mid p =
+  put_parts edit parts mid p =
       let window : Row = ([], p.tree) in
       let s = replaced place window t.kids t.last in
       let same : seen (top depth) s ≡ (children (top depth) t.kids, top depth t.last) = (
@@ -191,7 +192,7 @@ module _ (old : PageMap) (size number ways : ℕ) (columns : List Collation) (x 
           subst (λ (shown : Side ℕ Held). IsInterior mid size t.page shown.0 shown.1) (sym same) interior,
           side_lies mid window p.now_free p.moves p.lies,
         );
-        entries_are = entries_with edit local window p.entries_are;
+        entries_are = row_gives (entries_of depth) one place window t.kids t.last ∙ ap (λ (es : List Entry). left ++ (es ++ right)) p.entries_are ∙ sym parts;
         now_free = p.now_free;
         has = p.has;
         moves = beside old mid (pages_in depth t.kids t.last) free (pages_in depth s.0 s.1) p.now_free t.page (side_moves mid window p.now_free p.moves p.lies);
@@ -203,10 +204,14 @@ module _ (old : PageMap) (size number ways : ℕ) (columns : List Collation) (x 
       there zero (kid ∷ kids) last = refl
       there (suc place) (kid ∷ kids) last = there place kids last
 
+  pub put_above : (edit : List Entry → List Entry) → IsLocalTo columns x edit → (mid : PageMap) → IsPut old mid size (top depth kid) depth (edit (entries_of depth kid)) (pages_of depth kid) free
+      → IsPut old mid size number (suc depth) (edit (entries_of (suc depth) t)) (pages_of (suc depth) t) free
+  put_above edit local mid p = put_parts edit (about edit local) mid p
+
   -- the pages below the page have moved, and not the page
   pub put_moves : (edit : List Entry → List Entry) (local : IsLocalTo columns x edit) (mid : PageMap) (p : IsPut old mid size (top depth kid) depth (edit (entries_of depth kid)) (pages_of depth kid) free)
       → Moves old mid (below_of (suc depth) t) free (below_of (suc depth) (put_above edit local mid p).tree) (put_above edit local mid p).now_free
-  unfolding put_above
+  unfolding put_above put_parts
   put_moves edit local mid p = side_moves mid ([], p.tree) p.now_free p.moves p.lies
 
   pub grown_alone : (edit : List Entry → List Entry) (mid : PageMap) (fan : Fan) (g : IsGrown old mid size (top depth kid) depth (edit (entries_of depth kid)) (pages_of depth kid) free fan) → cells_of fan ≡ []

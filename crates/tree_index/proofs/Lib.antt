@@ -36,6 +36,9 @@ mod Without
 mod Tops
 mod Grown
 mod OneLess
+mod Going
+mod Whole
+mod RunOff
 mod Pairs
 mod Taken
 mod TwoPlans

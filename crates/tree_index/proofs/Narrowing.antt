@@ -1,5 +1,5 @@
 -- An interior page one of whose children lost an entry.
-use Rattle.std.proofs.Common.{◌≡◌, ◌≤◌, ◌<◌, ◌+◌, ℕ, suc, true, List, [], ◌∷◌, length, refl, sym, ap, subst, ◌∙◌, arith}
+use Rattle.std.proofs.Common.{◌≡◌, ◌≤◌, ◌<◌, ℕ, suc, true, List, [], ◌∷◌, length, take, refl, sym, ap, subst, ◌∙◌, arith}
 use Rattle.std.specs.Prelude.{Result, Ok, Err, MatchResult}
 use Rattle.sqlval.specs.declared.collation.Collation.{Collation}
 use Rattle.sqlval.specs.declared.fault.Fault.{Fault}
@@ -17,7 +17,7 @@ use Rattle.tree_store.specs.Sides.{children}
 use Rattle.tree_store.specs.Storing.{IsStored, Stores, cells_of}
 use Rattle.tree_store.specs.declared.storing.Fan.{Fan}
 use Rattle.tree_index.specs.Comparing.{front_count, is_less, child_at}
-use Rattle.tree_index.specs.Entries.{Entry, has_entry, without_entry}
+use Rattle.tree_index.specs.Entries.{Entry, AreEntries, AreLong, GoInTurn, has_entry, without_entries, without_entry}
 use Rattle.tree_index.specs.Freeing.{StandsUnder, below_of}
 use Rattle.tree_index.specs.Growing.{IsEqualAt, IsUnder, IsPlanned, IsPut, IsWayTo, Fans}
 use Rattle.tree_index.specs.Joining.{JoinsAt}
@@ -25,9 +25,10 @@ use Rattle.tree_index.specs.Removing.{IsLessened, Lessens}
 use Rattle.tree_index.specs.Tree.{Held, IsKidAs, Tree, top, entries_of, pages_of}
 use Rattle.tree_index.specs.declared.removing.Loss.{Loss}
 use Rattle.tree_index.specs.declared.removing.Loss.TheVariants.{Still, Done, Spread}
-use Rattle.tree_index.proofs.Branches.{kid, under_child, has_same, put_above, put_moves, grown_alone, page_at_mid, long_mid, plan_above}
+use Rattle.tree_index.proofs.Branches.{kid, left, right, split, under_child, has_same, put_above, put_parts, put_moves, grown_alone, page_at_mid, long_mid, plan_above}
 use Rattle.tree_index.proofs.Clearing.{number_far}
 use Rattle.tree_index.proofs.Emptied.{large_size}
+use Rattle.tree_index.proofs.Going.{first_long, go_within}
 use Rattle.tree_index.proofs.Growth.{IsGrown, grown, planned_after, can_store}
 use Rattle.tree_index.proofs.Leaves.{usual}
 use Rattle.tree_index.proofs.Orders.{count_within}
@@ -37,12 +38,12 @@ use Rattle.tree_index.proofs.Subtrees.{IsTold, told, entries_between, tree_up, b
 use Rattle.tree_index.proofs.Widening.{full_or}
 use Rattle.tree_index.proofs.Without.{without_local}
 
-pub lessened_since : (old mid new : PageMap) (size number : ℕ) (columns : List Collation) (x : Entry) (depth : ℕ) (t : Tree depth) (free : List ℕ) (loss : Loss) → new ≡ mid
-    → IsLessened old mid size number columns x depth t free loss → IsLessened old new size number columns x depth t free loss
-lessened_since old mid new size number columns x depth t free loss same is = subst (λ (m : PageMap). IsLessened old m size number columns x depth t free loss) (sym same) is
+pub lessened_since : (old mid new : PageMap) (size number : ℕ) (columns : List Collation) (x : Entry) (rest : List Entry) (depth : ℕ) (t : Tree depth) (free : List ℕ) (loss : Loss) → new ≡ mid
+    → IsLessened old mid size number columns x rest depth t free loss → IsLessened old new size number columns x rest depth t free loss
+lessened_since old mid new size number columns x rest depth t free loss same is = subst (λ (m : PageMap). IsLessened old m size number columns x rest depth t free loss) (sym same) is
 
-module _ (old : PageMap) (size number depth : ℕ) (columns : List Collation) (x : Entry) (t : Tree (suc depth)) (free : List ℕ) (under : IsUnder old size number (suc depth) columns (suc depth) t free)
-    (long_x : length x ≡ length columns + 1) (place child : ℕ) (way : IsWayTo columns x depth t place child) where
+module _ (old : PageMap) (size number depth : ℕ) (columns : List Collation) (x : Entry) (rest : List Entry) (t : Tree (suc depth)) (free : List ℕ) (under : IsUnder old size number (suc depth) columns (suc depth) t free)
+    (long_x : AreLong columns (x ∷ rest)) (place child : ℕ) (way : IsWayTo columns x depth t place child) where
   pub other : IsEqualAt columns x (entries_between t.kids) (front_count (is_less columns x) (entries_between t.kids)) → ⊥
   other equal = way.other (subst (λ (n : ℕ). IsEqualAt columns x (entries_between t.kids) n) (sym way.place_is) equal)
 
@@ -59,25 +60,34 @@ module _ (old : PageMap) (size number depth : ℕ) (columns : List Collation) (x
   under_now : IsUnder old size (top depth at_kid) depth columns depth at_kid free
   under_now = under_child old size number depth columns x depth t free under other
 
-  pub child_lessened : (mid : PageMap) (loss : Loss) → Lessens old mid size child depth columns x (Ok loss) → IsLessened old mid size (top depth at_kid) columns x depth at_kid free loss
-  child_lessened mid loss lessens = subst (λ (n : ℕ). Lessens old mid size n depth columns x (Ok loss)) child_same lessens at_kid free under_now long_x
+  pub child_lessened : (mid : PageMap) (loss : Loss) → Lessens old mid size child depth columns x rest (Ok loss) → IsLessened old mid size (top depth at_kid) columns x rest depth at_kid free loss
+  child_lessened mid loss lessens = subst (λ (n : ℕ). Lessens old mid size n depth columns x rest (Ok loss)) child_same lessens at_kid free under_now long_x
 
-  pub child_refused : (mid : PageMap) (fault : Fault) → Lessens old mid size child depth columns x (Err fault) → IsOutsideOrFull fault
-  child_refused mid fault lessens = subst (λ (n : ℕ). Lessens old mid size n depth columns x (Err fault)) child_same lessens at_kid free under_now long_x
+  pub child_refused : (mid : PageMap) (fault : Fault) → Lessens old mid size child depth columns x rest (Err fault) → IsOutsideOrFull fault
+  child_refused mid fault lessens = subst (λ (n : ℕ). Lessens old mid size n depth columns x rest (Err fault)) child_same lessens at_kid free under_now long_x
 
   same : has_entry columns x (entries_of (suc depth) t) ≡ has_entry columns x (entries_of depth at_kid)
   same = has_same old size number depth columns x depth t free under other
 
   -- where the entry isn't there, or the child stays, the page stays
-  pub above_still : (mid : PageMap) → Lessens old mid size child depth columns x (Ok Still) → IsLessened old mid size number columns x (suc depth) t free Still
+  pub above_still : (mid : PageMap) → Lessens old mid size child depth columns x rest (Ok Still) → IsLessened old mid size number columns x rest (suc depth) t free Still
   above_still mid lessens = (let is = child_lessened mid Still lessens in (same ∙ is.0, is.1))
 
-  pub above_done : (mid : PageMap) → Lessens old mid size child depth columns x (Ok Done) → IsLessened old mid size number columns x (suc depth) t free Done
-  above_done mid lessens =
-      (let is = child_lessened mid Done lessens in (same ∙ is.0, put_above old size number depth columns x depth t free under other edit (without_local columns x) mid is.1))
+  pub above_done : (mid : PageMap) (more : ℕ) → Lessens old mid size child depth columns x rest (Ok (Done more)) → IsLessened old mid size number columns x rest (suc depth) t free (Done more)
+  above_done mid more lessens =
+      let is = child_lessened mid (Done more) lessens in
+      let gone = x ∷ take more rest in
+      let parts = split old size number depth columns x depth t free under other in
+      let l = left old size number depth columns x depth t free under other in
+      let r = right old size number depth columns x depth t free under other in
+      let go = go_within columns gone (long_x.0, first_long columns more rest long_x.1) l (entries_of depth at_kid) r (subst (λ (es : List Entry). AreEntries columns es) parts under.sorted) (is.0, is.1.1) in
+      let all = subst (λ (es : List Entry). GoInTurn columns gone es) (sym parts) go.0 in (
+        all.0,
+        (is.1.0, all.1, put_parts old size number depth columns x depth t free under other (without_entries columns gone) (ap (without_entries columns gone) parts ∙ go.1) mid is.1.2),
+      )
 
-  module _ (mid : PageMap) (packed : Packed) (lessens : Lessens old mid size child depth columns x (Ok (Spread packed))) where
-    spread : IsLessened old mid size (top depth at_kid) columns x depth at_kid free (Spread packed)
+  module _ (mid : PageMap) (packed : Packed) (lessens : Lessens old mid size child depth columns x rest (Ok (Spread packed))) where
+    spread : IsLessened old mid size (top depth at_kid) columns x rest depth at_kid free (Spread packed)
     spread = child_lessened mid (Spread packed) lessens
 
     abbrev all : List Entry
@@ -132,7 +142,7 @@ module _ (old : PageMap) (size number depth : ℕ) (columns : List Collation) (x
 
       -- several pages took the child's place
       pub narrowed_spread : (page : List ℕ) (result : Result Packed Fault) → page ≡ page_at new number → Fans page place fan result
-          → MatchResult result (λ p. IsLessened old new size number columns x (suc depth) t free (Spread p)) (λ fault. fault ≡ Memory)
+          → MatchResult result (λ p. IsLessened old new size number columns x rest (suc depth) t free (Spread p)) (λ fault. fault ≡ Memory)
       narrowed_spread page result page_is fans = by result
           (subst (λ (n : ℕ). Fans (page_at new number) n fan result) way.place_is (subst (λ (p : List ℕ). Fans p place fan result) page_is fans))
         where
@@ -140,7 +150,7 @@ module _ (old : PageMap) (size number depth : ℕ) (columns : List Collation) (x
           cells = subst (λ (n : ℕ). Pairwise (IsBetweenCell n) (cells_of fan) g.news) (sym long) g.cells
 
           by : (result : Result Packed Fault) → Fans (page_at new number) (front_count (is_less columns x) (entries_between t.kids)) fan result
-              → MatchResult result (λ p. IsLessened old new size number columns x (suc depth) t free (Spread p)) (λ fault. fault ≡ Memory)
+              → MatchResult result (λ p. IsLessened old new size number columns x rest (suc depth) t free (Spread p)) (λ fault. fault ≡ Memory)
           by (Ok p) fans = (
             present,
             plan_above old size number depth columns x depth t free under other edit new fan g (without_local columns x) p
@@ -159,8 +169,8 @@ module _ (old : PageMap) (size number depth : ℕ) (columns : List Collation) (x
         below_moves = put_moves old size number depth columns x depth t free under other edit (without_local columns x) new child_put
 
         -- one did
-        pub narrowed_done : IsLessened old new size number columns x (suc depth) t free Done
-        narrowed_done = (present, put)
+        pub narrowed_done : IsLessened old new size number columns x rest (suc depth) t free (Done 0)
+        narrowed_done = (present, (omega arith, tt, put))
 
         past : IsAfter new size (below_of (suc depth) put.tree) put.now_free
         past = after old new size (below_of (suc depth) t) free (below_of (suc depth) put.tree) put.now_free under.stands.free_are below_moves put.has (below_up old size (suc depth) t under.stands.lies)
@@ -191,11 +201,11 @@ module _ (old : PageMap) (size number depth : ℕ) (columns : List Collation) (x
 
         -- and the child is joined with one beside it
         pub narrowed_joined : (final : PageMap) (first : ℕ) → first < length put_kids → (result : Result Packed Fault) → JoinsAt new final size number first depth result
-            → MatchResult result (λ p. IsLessened old final size number columns x (suc depth) t free (Spread p)) IsOutsideOrFull
+            → MatchResult result (λ p. IsLessened old final size number columns x rest (suc depth) t free (Spread p)) IsOutsideOrFull
         narrowed_joined final first lt result joins = by result (joins (suc depth) put.tree put.now_free stands_now under.sized lt)
           where
             by : (result : Result Packed Fault) → MatchResult result (IsPlanned new final size (suc depth) (entries_of (suc depth) put.tree) (below_of (suc depth) put.tree) put.now_free) IsOutsideOrFull
-                → MatchResult result (λ p. IsLessened old final size number columns x (suc depth) t free (Spread p)) IsOutsideOrFull
+                → MatchResult result (λ p. IsLessened old final size number columns x rest (suc depth) t free (Spread p)) IsOutsideOrFull
             by (Err fault) refused = refused
             by (Ok p) plan = (
               present,

@@ -6,12 +6,11 @@ use Rattle.sqlval.specs.declared.fault.Fault.{Fault}
 use Rattle.pages.specs.Calls.{IsOutsideOrFull}
 use Rattle.pages.specs.Map.{PageMap}
 use Rattle.tree_pack.specs.declared.spreading.Packed.{Packed}
-use Rattle.tree_index.specs.Entries.{Entry, AreEntries, has_entry, without_entry}
-use Rattle.tree_index.specs.Freeing.{below_of}
-use Rattle.tree_index.specs.Growing.{IsEqualAt, StepsFrom, IsUnder, IsPlanned, IsPut, IsWayTo}
+use Rattle.tree_index.specs.Entries.{Entry, AreEntries, AreLong, has_entry, without_entry}
+use Rattle.tree_index.specs.Growing.{IsEqualAt, StepsFrom, IsUnder, IsWayTo}
 use Rattle.tree_index.specs.Joining.{tree_at, left_at, right_at}
 use Rattle.tree_index.specs.Removing.{TakesAt, IsTakenOut, IsLessened, Lessens, Narrows, count_at, entries_cut}
-use Rattle.tree_index.specs.Tree.{Held, Tree, top, entries_of, pages_of}
+use Rattle.tree_index.specs.Tree.{Held, Tree, top, entries_of}
 use Rattle.tree_index.specs.declared.placing.Step.TheVariants.{Found, Here, Down}
 use Rattle.tree_index.specs.declared.removing.Loss.{Loss}
 use Rattle.tree_index.specs.declared.removing.Loss.TheVariants.{Still, Done, Spread}
@@ -21,9 +20,12 @@ use Rattle.tree_index.proofs.Orders.{not_less_first}
 use Rattle.tree_index.proofs.Pairs.{one, pair_entries, held_is, between_len}
 use Rattle.tree_index.proofs.Subtrees.{entries_at, entries_between}
 use Rattle.tree_index.proofs.Widening.{stepped, step_found, kids_alike, none_some, some_none, some_is}
-use Rattle.tree_index.proofs.Without.{leaf_without, without_one}
+use Rattle.tree_index.proofs.Without.{leaf_without, others_rise, without_one}
 
-module _ (columns : List Collation) (x : Entry) (long_x : length x ≡ length columns + 1) where
+module _ (columns : List Collation) (x : Entry) (rest : List Entry) (long_all : AreLong columns (x ∷ rest)) where
+  long_x : length x ≡ length columns + 1
+  long_x = long_all.0
+
   -- the entry at the place goes, and no other
   cut_is : (depth place : ℕ) (t : Tree depth) → AreEntries columns (entries_of depth t) → IsEqualAt columns x (entries_at depth t) place → entries_cut depth place t ≡ without_entry columns x (entries_of depth t)
   cut_is zero place t sorted equal = sym (leaf_without columns x long_x t.entries place sorted equal)
@@ -48,8 +50,8 @@ module _ (columns : List Collation) (x : Entry) (long_x : length x ≡ length co
   module _ (old : PageMap) (size number : ℕ) where
     -- it is on the page at the top
     pub found_taken : (new : PageMap) (place depth : ℕ) (t : Tree depth) (free : List ℕ) → IsUnder old size number depth columns depth t free → StepsFrom old size number columns x (Ok (Found place))
-        → (result : Result Loss Fault) → TakesAt old new size number place depth result → MatchResult result (IsLessened old new size number columns x depth t free) IsOutsideOrFull
-    found_taken new place depth t free under steps result takes = by result (takes depth t free under.stands under.sized (within depth place t equal))
+        → (result : Result Loss Fault) → TakesAt old new size number place depth columns rest result → MatchResult result (IsLessened old new size number columns x rest depth t free) IsOutsideOrFull
+    found_taken new place depth t free under steps result takes = by result (takes depth t free under.stands under.sized (within depth place t equal) (subst (λ (es : List Entry). AreEntries columns es) (sym cut) (others_rise columns x (entries_of depth t) under.sorted)) long_all.1)
       where
         equal : IsEqualAt columns x (entries_at depth t) place
         equal = (stepped old size number depth columns x depth t free under (Ok (Found place)) steps).1
@@ -60,11 +62,11 @@ module _ (columns : List Collation) (x : Entry) (long_x : length x ≡ length co
         cut : entries_cut depth place t ≡ without_entry columns x (entries_of depth t)
         cut = cut_is depth place t under.sorted equal
 
-        by : (result : Result Loss Fault) → MatchResult result (IsTakenOut old new size number depth (entries_cut depth place t) t free) IsOutsideOrFull
-            → MatchResult result (IsLessened old new size number columns x depth t free) IsOutsideOrFull
+        by : (result : Result Loss Fault) → MatchResult result (IsTakenOut old new size number depth columns rest (entries_cut depth place t) t free) IsOutsideOrFull
+            → MatchResult result (IsLessened old new size number columns x rest depth t free) IsOutsideOrFull
         by (Ok Still) none = absurd none
-        by (Ok Done) put = (there, subst (λ (es : List Entry). IsPut old new size number depth es (pages_of depth t) free) cut put)
-        by (Ok (Spread p)) plan = (there, subst (λ (es : List Entry). IsPlanned old new size depth es (below_of depth t) free p) cut plan)
+        by (Ok (Done more)) out = (there, subst (λ (es : List Entry). IsTakenOut old new size number depth columns rest es t free (Done more)) cut out)
+        by (Ok (Spread p)) out = (there, subst (λ (es : List Entry). IsTakenOut old new size number depth columns rest es t free (Spread p)) cut out)
         by (Err fault) refused = refused
 
     -- a leaf hasn't it
@@ -90,16 +92,16 @@ module _ (columns : List Collation) (x : Entry) (long_x : length x ≡ length co
             child_is = some_is _ _ (sym is.2) ∙ kids_alike (top depth) old size place (under.stands.lies.0).said t.kids (top depth t.last) (under.stands.lies.0).children;
           }
 
-      pub down_refused : (mid : PageMap) (fault : Fault) → Lessens old mid size child depth columns x (Err fault) → (t : Tree (suc depth)) (free : List ℕ) → IsUnder old size number (suc depth) columns (suc depth) t free
+      pub down_refused : (mid : PageMap) (fault : Fault) → Lessens old mid size child depth columns x rest (Err fault) → (t : Tree (suc depth)) (free : List ℕ) → IsUnder old size number (suc depth) columns (suc depth) t free
           → IsOutsideOrFull fault
-      down_refused mid fault lessens t free under = child_refused old size number depth columns x t free under long_x place child (way_to t free under) mid fault lessens
+      down_refused mid fault lessens t free under = child_refused old size number depth columns x rest t free under long_all place child (way_to t free under) mid fault lessens
 
-      pub down_still : (mid : PageMap) → Lessens old mid size child depth columns x (Ok Still) → Lessens old mid size number (suc depth) columns x (Ok Still)
-      down_still mid lessens t free under long = above_still old size number depth columns x t free under long_x place child (way_to t free under) mid lessens
+      pub down_still : (mid : PageMap) → Lessens old mid size child depth columns x rest (Ok Still) → Lessens old mid size number (suc depth) columns x rest (Ok Still)
+      down_still mid lessens t free under long = above_still old size number depth columns x rest t free under long_all place child (way_to t free under) mid lessens
 
-      pub down_done : (mid : PageMap) → Lessens old mid size child depth columns x (Ok Done) → Lessens old mid size number (suc depth) columns x (Ok Done)
-      down_done mid lessens t free under long = above_done old size number depth columns x t free under long_x place child (way_to t free under) mid lessens
+      pub down_done : (mid : PageMap) (more : ℕ) → Lessens old mid size child depth columns x rest (Ok (Done more)) → Lessens old mid size number (suc depth) columns x rest (Ok (Done more))
+      down_done mid more lessens t free under long = above_done old size number depth columns x rest t free under long place child (way_to t free under) mid more lessens
 
-      pub down_spread : (mid new : PageMap) (packed : Packed) → Lessens old mid size child depth columns x (Ok (Spread packed)) → (result : Result Loss Fault) → Narrows mid new size number place child packed depth result
-          → Lessens old new size number (suc depth) columns x result
-      down_spread mid new packed lessens result narrows t free under long = narrows old columns x t free under long_x (way_to t free under) lessens
+      pub down_spread : (mid new : PageMap) (packed : Packed) → Lessens old mid size child depth columns x rest (Ok (Spread packed)) → (result : Result Loss Fault) → Narrows mid new size number place child packed depth result
+          → Lessens old new size number (suc depth) columns x rest result
+      down_spread mid new packed lessens result narrows t free under long = narrows old columns x rest t free under long_all (way_to t free under) lessens

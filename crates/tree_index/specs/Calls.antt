@@ -1,5 +1,5 @@
 -- What calls do with an index's tree: it is a set of entries in rising order.
-use Rattle.std.specs.Prelude.{◌≡◌, ◌⊎◌, ◌≤◌, ◌+◌, ℕ, Bool, true, false, List, [], ◌∷◌, length, ⊤, Result, MatchResult}
+use Rattle.std.specs.Prelude.{◌≡◌, ◌⊎◌, ◌≤◌, ◌+◌, ℕ, zero, suc, Bool, true, false, List, [], ◌∷◌, length, take, ⊤, Result, MatchResult}
 use Rattle.sqlval.specs.Faults.{IsOutside}
 use Rattle.sqlval.specs.PageSizes.{IsPageSize}
 use Rattle.sqlval.specs.declared.collation.Collation.{Collation}
@@ -12,7 +12,7 @@ use Rattle.pages.specs.Counting.{occurs, Moves}
 use Rattle.pages.specs.Map.{PageMap}
 use Rattle.freelist.specs.Calls.{AreFree, KeepsHeader}
 use Rattle.sqlval.specs.declared.value.Value.{Value}
-use Rattle.tree_index.specs.Entries.{Entry, has_entry, key_in, with_entry, without_entry, LeadsTo}
+use Rattle.tree_index.specs.Entries.{Entry, AreLong, GoInTurn, LeadsTo, has_entry, key_in, with_entry, without_entries, without_entry}
 use Rattle.tree_index.specs.Tree.{IsIndexTree}
 
 -- a tree of these entries, and free pages beside it, none of them in it; page 1 isn't one of its pages
@@ -131,3 +131,25 @@ abbrev pub RemovesEntry : PageMap → PageMap → ℕ → ℕ → List Collation
 RemovesEntry old new size root columns entry result =
     (entries : List Entry) (used free : List ℕ) → Stands old size root columns entries used free → length entry ≡ length columns + 1
     → MatchResult result (IsRemoved old new size root columns entry entries used free) IsOutsideOrFull
+
+-- ---- entries that are taken out one after the other
+
+-- none is given, or the first isn't among the entries
+abbrev pub IsFirstMissing : List Collation → List Entry → List Entry → Type 0
+IsFirstMissing columns [] entries = ⊤
+IsFirstMissing columns (first ∷ given) entries = has_entry columns first entries ≡ false
+
+-- so many of the given entries, the first ones, were taken out, each of which was there in its turn; or it is none, since there is no first one, and
+-- nothing changed
+abbrev pub IsRunRemoved : PageMap → PageMap → ℕ → ℕ → List Collation → List Entry → List Entry → List ℕ → List ℕ → ℕ → Type 0
+IsRunRemoved old new size root columns given entries used free zero = IsFirstMissing columns given entries × (new ≡ old)
+IsRunRemoved old new size root columns given entries used free (suc more) =
+    (suc more ≤ length given) × GoInTurn columns (take (suc more) given) entries
+    × BecomesEntries old new size root columns (without_entries columns (take (suc more) given) entries) used free
+
+-- Where a tree stands, the first of the given entries, each of its columns and a rowid, are taken out of it; or memory was short, a disk's call
+-- failed, or there are as many pages as there may be.
+abbrev pub RemovesRun : PageMap → PageMap → ℕ → ℕ → List Collation → List Entry → Result ℕ Fault → Type 0
+RemovesRun old new size root columns given result =
+    (entries : List Entry) (used free : List ℕ) → Stands old size root columns entries used free → AreLong columns given
+    → MatchResult result (IsRunRemoved old new size root columns given entries used free) IsOutsideOrFull

@@ -94,6 +94,11 @@ ComparesEntry pages size number place columns key result = (node : Node) (entrie
     → HasEntries pages size number node entries → place < length entries
     → MatchResult result (λ order. order ≡ entry_cmp columns key (slice_index_or entries place d).entry) IsOutside
 
+-- the entry at a place of a page goes on in no overflow pages
+abbrev pub LiesWhole : PageMap → ℕ → ℕ → ℕ → Type 0
+LiesWhole pages size number place = (node : Node) (entries : List Held) (d : Held) → HasEntries pages size number node entries → place < length entries
+    → (slice_index_or entries place d).pages ≡ []
+
 -- Where the entries that are passed come first, the first place was found whose entry isn't; or memory was short, or a disk's call failed.
 abbrev pub FindsPlace : PageMap → ℕ → ℕ → Bool → List Collation → List Value → Result ℕ Fault → Type 0
 FindsPlace pages size number after columns key result = (node : Node) (entries : List Held) → AreWhole size pages

@@ -1,5 +1,5 @@
 -- The entries of an index and their order (Database File Format, "Representation Of SQL Indices").
-use Rattle.std.specs.Prelude.{◌≡◌, ◌+◌, Bool, true, false, not, List, [], ◌∷◌, ◌++◌, map, length, take, filter, if◌then◌else◌}
+use Rattle.std.specs.Prelude.{◌≡◌, ◌+◌, Bool, true, false, not, List, [], ◌∷◌, ◌++◌, map, length, take, filter, if◌then◌else◌, ⊤}
 use Rattle.std.specs.declared.cmp.Ordering.{Ordering}
 use Rattle.std.specs.Ordering.{is_gt, is_lt, is_eq}
 use Rattle.std.specs.List.{AllByRecursion, list_any}
@@ -54,6 +54,20 @@ LeadsTo columns key entry = (entries : List Entry) → has_entry columns key ent
 -- the entries without those that the order can't tell from this one
 abbrev pub without_entry : List Collation → Entry → List Entry → List Entry
 without_entry columns entry entries = filter (λ other. not (is_eq (entry_cmp columns entry other))) entries
+
+-- the entries without these, one after the other
+abbrev pub without_entries : List Collation → List Entry → List Entry → List Entry
+without_entries columns [] entries = entries
+without_entries columns (gone ∷ more) entries = without_entries columns more (without_entry columns gone entries)
+
+-- each of these is among the entries when its turn comes, after those before it have gone
+abbrev pub GoInTurn : List Collation → List Entry → List Entry → Type 0
+GoInTurn columns [] entries = ⊤
+GoInTurn columns (gone ∷ more) entries = (has_entry columns gone entries ≡ true) × GoInTurn columns more (without_entry columns gone entries)
+
+-- each of these has a value for each column, and a rowid
+abbrev pub AreLong : List Collation → List Entry → Type 0
+AreLong columns entries = AllByRecursion (λ entry. length entry ≡ length columns + 1) entries
 
 -- an entry, which compares so with a key, is passed: it is less, or it is equal where the key itself is passed
 abbrev pub is_passed : Bool → Ordering → Bool

@@ -7,6 +7,7 @@ pub mod Freeing
 pub mod Growing
 pub mod Joining
 pub mod Removing
+pub mod Taking
 pub mod Flattening
 pub mod Lowering
 pub mod Scanning

@@ -10,7 +10,7 @@ ghost use Rattle.pages.specs.Map.{PageMap, page_at};
 ghost use Rattle.record.specs.Reading.{columns_at};
 ghost use Rattle.record.specs.Record.{IsRecord};
 ghost use Rattle.tree_page.specs.Payload.{index_most};
-ghost use Rattle.tree_index.specs.Comparing.{ComparesEntry, collation_for};
+ghost use Rattle.tree_index.specs.Comparing.{ComparesEntry, LiesWhole, collation_for};
 ghost use Rattle.tree_index.specs.Entries.{entry_cmp};
 
 use crate::cells::{at_page, local_in, most_in};
@@ -55,6 +55,24 @@ pub fn compare_entry(key: Key<'_>, entry: &Record<'_>) -> Ordering
         }
         let collation = collation_at(key.columns, place);
         let order = compare_field(&key.values[place], entry.column(place), collation);
+        if order.is_ne() {
+            return order;
+        }
+    }
+    Ordering::Equal
+}
+
+/// The order of two entries.
+pub fn compare_records(columns: &[Collation], a: &Record<'_>, b: &Record<'_>) -> Ordering
+    ensures { result ≡ entry_cmp columns.now a.now b.now }
+{
+    let most = a.len().min(b.len());
+    'values: for place in 0..most {
+        if place > columns.len() {
+            return Ordering::Equal;
+        }
+        let collation = collation_at(columns, place);
+        let order = compare_fields(a.column(place), b.column(place), collation);
         if order.is_ne() {
             return order;
         }
@@ -110,6 +128,9 @@ pub(crate) fn order_in(
     ensures found { IfSome result (λ found. (pages : PageMap) (size : ℕ)
         → bytes.now ≡ page_at pages number → most ≡ index_most size
         → ComparesEntry pages size number place key.entry.columns.now key.entry.values.now found) }
+    ensures whole { IfSome result (λ found. (pages : PageMap) (size : ℕ)
+        → bytes.now ≡ page_at pages number → most ≡ index_most size
+        → LiesWhole pages size number place) }
     ensures not_disk { IfSome result (λ found. IfErr found IsNotDiskFault) }
 {
     let local = match local_in(bytes, number, place) {

@@ -15,12 +15,13 @@ mod lowering;
 mod placing;
 mod removing;
 mod scanning;
+mod taking;
 
 pub use cells::most_in;
-pub use comparing::{Key, compare_entry, order};
+pub use comparing::{Key, compare_entry, compare_records, order};
 pub use filling::fill_tree;
 pub use freeing::{clear, free_tree, new_tree};
 pub use inserting::{insert, insert_alone};
 pub use laws::index_trees_stay;
-pub use removing::remove;
+pub use removing::{remove, remove_run};
 pub use scanning::Cursor;

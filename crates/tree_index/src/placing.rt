@@ -35,7 +35,13 @@ fn is_past(order: Ordering, after: bool) -> bool
 
 /// The first place on the page of these bytes, found as `place_of` does; None if the payload of an entry that is compared goes on in overflow
 /// pages. (As `len_of` and `order_in` refuse it.)
-fn place_in(bytes: &[u8], number: u32, most: usize, key: Key<'_>, after: bool) -> Option<R<usize>>
+pub(crate) fn place_in(
+    bytes: &[u8],
+    number: u32,
+    most: usize,
+    key: Key<'_>,
+    after: bool,
+) -> Option<R<usize>>
     ensures found { IfSome result (λ found. (pages : PageMap) (size : ℕ)
         → bytes.now ≡ page_at pages number → most ≡ index_most size
         → FindsPlace pages size number after key.entry.columns.now key.entry.values.now found) }

@@ -1,11 +1,11 @@
 //! Taking an entry out of an index's tree.
 
-ghost use Rattle.std.specs.Prelude.{◌≡◌, ◌<◌, ◌≤◌, length, IsTrue, IfOk};
+ghost use Rattle.std.specs.Prelude.{◌≡◌, ◌<◌, ◌≤◌, ◌+◌, length, IsTrue, IfOk};
 ghost use Rattle.pages.specs.Calls.{Causes, Stays};
 ghost use Rattle.tree_page.specs.Node.{Node, IsNode};
 ghost use Rattle.tree_page.specs.Reading.{count_of};
-ghost use Rattle.tree_index.specs.Calls.{RemovesEntry};
-ghost use Rattle.tree_index.specs.Removing.{CutsLeaf, FindsDepth, Lessens, Narrows, TakesAt};
+ghost use Rattle.tree_index.specs.Calls.{RemovesEntry, RemovesRun};
+ghost use Rattle.tree_index.specs.Removing.{CutsLeaf, FindsDepth, Lessens, Narrows, RemovesFirst, TakesAt};
 
 use crate::cells::{child_of, len_of};
 use crate::comparing::Key;
@@ -14,8 +14,9 @@ use crate::growing::fanned;
 use crate::joining::{joined, parted};
 use crate::lowering::settle;
 use crate::placing::{Step, step_from};
+use crate::taking::run_off;
 use pages::{Pages, WritePages};
-use sqlval::{Collation, Damage, Fault, R, Value};
+use sqlval::{Collation, Damage, Fault, Many, R, Value};
 use std::alloc::Global;
 use tree_pack::{Packed, splice};
 use tree_page::TreePage;
@@ -26,8 +27,8 @@ use tree_store::{store, take_off};
 pub(crate) enum Loss {
     /// There is no such entry: nothing has changed.
     Still,
-    /// The page stays, and below it all is done.
-    Done,
+    /// The page stays, and below it all is done: so many of the entries after the first are out too.
+    Done(usize),
     /// The page gives way to these, which aren't stored yet.
     Spread(Packed),
 }
@@ -50,8 +51,13 @@ fn depth_below<P: Pages>(pages: &mut P, number: u32, ways: u32) -> R<u32>
 }
 
 /// Takes the entry at a place of a leaf out, and gives its overflow pages back: the cell is taken off the page where its bytes can be told as free;
-/// else the leaf gives way to a page that isn't stored yet.
-fn cut_leaf<P: WritePages>(alloc: Global, pages: &mut P, number: u32, place: usize) -> R<Loss>
+/// else the leaf gives way to these pages, which aren't stored yet.
+fn cut_leaf<P: WritePages>(
+    alloc: Global,
+    pages: &mut P,
+    number: u32,
+    place: usize,
+) -> R<Option<Packed>>
     ensures cut { IsTrue (P.Pages.tells (P.Pages.below pages.old))
         → CutsLeaf (P.Pages.map pages.old) (P.Pages.map pages.new)
         (P.Pages.limits (P.Pages.below pages.old)).page number place result }
@@ -60,30 +66,55 @@ fn cut_leaf<P: WritePages>(alloc: Global, pages: &mut P, number: u32, place: usi
 {
     free_entry(alloc, pages, number, place)?;
     if take_off(alloc, pages, number, place)? {
-        return Ok(Loss::Done);
+        return Ok(None);
     }
     pages.load(number)?;
     let packed = splice(alloc, pages.loaded(), 0, place, 1, &[], None)?;
-    Ok(Loss::Spread(packed))
+    Ok(Some(packed))
 }
 
-/// Takes the entry at a place of the top of a tree of this depth out: what becomes of that page. All pages below it are stored then.
+/// Takes the entry at a place of a leaf out, and, where the leaf stays in its place, those that `run_off` takes off it: what becomes of
+/// the leaf.
+fn cut_run<P: WritePages>(
+    alloc: Global,
+    pages: &mut P,
+    number: u32,
+    place: usize,
+    columns: &[Collation],
+    rest: &[Many<Value>],
+) -> R<Loss>
+    ensures taken { IsTrue (P.Pages.tells (P.Pages.below pages.old))
+        → TakesAt (P.Pages.map pages.old) (P.Pages.map pages.new)
+        (P.Pages.limits (P.Pages.below pages.old)).page number place 0 columns.now rest.now result }
+    ensures kept { P.Pages.below pages.new ≡ P.Pages.below pages.old }
+    ensures causes { Causes result (P.Pages.failures pages.old) (P.Pages.failures pages.new) ⊥ }
+{
+    if let Some(packed) = cut_leaf(alloc, pages, number, place)? {
+        return Ok(Loss::Spread(packed));
+    }
+    Ok(Loss::Done(run_off(alloc, pages, number, place, columns, rest)?))
+}
+
+/// Takes the entry at a place of the top of a tree of this depth out, and from a leaf as many of the rest as `cut_run` does: what becomes of
+/// that page. All pages below it are stored then.
 fn taken_out<P: WritePages>(
     alloc: Global,
     pages: &mut P,
     number: u32,
     place: usize,
     depth: u32,
+    columns: &[Collation],
+    rest: &[Many<Value>],
 ) -> R<Loss>
     ensures taken { IsTrue (P.Pages.tells (P.Pages.below pages.old))
         → TakesAt (P.Pages.map pages.old) (P.Pages.map pages.new)
-        (P.Pages.limits (P.Pages.below pages.old)).page number place depth result }
+        (P.Pages.limits (P.Pages.below pages.old)).page number place depth columns.now rest.now result }
     ensures kept { P.Pages.below pages.new ≡ P.Pages.below pages.old }
     ensures causes { Causes result (P.Pages.failures pages.old) (P.Pages.failures pages.new)
         (P.Pages.count pages.new ≡ (P.Pages.limits (P.Pages.below pages.new)).most) }
 {
     if depth == 0 {
-        return cut_leaf(alloc, pages, number, place);
+        return cut_run(alloc, pages, number, place, columns, rest);
     }
     let packed = parted(alloc, pages, number, place, depth - 1)?;
     Ok(Loss::Spread(packed))
@@ -137,47 +168,79 @@ fn narrowed<P: WritePages>(
         return Ok(Loss::Spread(spread));
     }
     if !is_bare(packed) {
-        return Ok(Loss::Done);
+        return Ok(Loss::Done(0));
     }
     let len = len_of(pages, number)?;
     if len == 0 {
-        return Ok(Loss::Done);
+        return Ok(Loss::Done(0));
     }
     let spread = joined(alloc, pages, number, place_within(place, len), depth)?;
     Ok(Loss::Spread(spread))
 }
 
-/// What becomes of the top of a tree of this depth when an entry is taken out of the tree. All pages below it are stored then.
-/// (`Damaged(Depth, number)` if a way is longer.)
+/// What becomes of the top of a tree of this depth when an entry is taken out of the tree, and with it as many of the rest as are taken off
+/// the same leaf. All pages below it are stored then. (`Damaged(Depth, number)` if a way is longer.)
 fn removed_below<P: WritePages>(
     alloc: Global,
     pages: &mut P,
     number: u32,
     depth: u32,
     key: Key<'_>,
+    rest: &[Many<Value>],
     scratch: &mut Vec<u8>,
 ) -> R<Loss>
     ensures lessens { IsTrue (P.Pages.tells (P.Pages.below pages.old))
         → Lessens (P.Pages.map pages.old) (P.Pages.map pages.new)
         (P.Pages.limits (P.Pages.below pages.old)).page number depth
-        key.entry.columns.now key.entry.values.now result }
+        key.entry.columns.now key.entry.values.now rest.now result }
     ensures kept { P.Pages.below pages.new ≡ P.Pages.below pages.old }
     ensures causes { Causes result (P.Pages.failures pages.old) (P.Pages.failures pages.new)
         (P.Pages.count pages.new ≡ (P.Pages.limits (P.Pages.below pages.new)).most) }
 {
     let (place, child) = match step_from(pages, number, key, scratch)? {
-        Step::Found(place) => return taken_out(alloc, pages, number, place, depth),
+        Step::Found(place) => {
+            return taken_out(alloc, pages, number, place, depth, key.columns, rest);
+        }
         Step::Here(_) => return Ok(Loss::Still),
         Step::Down(place, child) => (place, child),
     };
     if depth == 0 {
         return Err(Fault::Damaged(Damage::Depth, number));
     }
-    let loss = removed_below(alloc, pages, child, depth - 1, key, scratch)?;
+    let loss = removed_below(alloc, pages, child, depth - 1, key, rest, scratch)?;
     match loss {
         Loss::Spread(packed) => narrowed(alloc, pages, number, place, child, &packed, depth - 1),
-        Loss::Done => Ok(Loss::Done),
+        Loss::Done(more) => Ok(Loss::Done(more)),
         Loss::Still => Ok(Loss::Still),
+    }
+}
+
+/// Takes the entry of a key out of the tree under this root, and with it as many of the rest, in their order, as are taken off the same leaf in
+/// place: how many of these. None if there is no such entry: then nothing changes.
+fn removed<P: WritePages>(
+    alloc: Global,
+    pages: &mut P,
+    root: u32,
+    key: Key<'_>,
+    rest: &[Many<Value>],
+) -> R<Option<usize>>
+    ensures removed { IsTrue (P.Pages.tells (P.Pages.below pages.old))
+        → RemovesFirst (P.Pages.map pages.old) (P.Pages.map pages.new)
+        (P.Pages.limits (P.Pages.below pages.old)).page root
+        key.entry.columns.now key.entry.values.now rest.now result }
+    ensures kept { P.Pages.below pages.new ≡ P.Pages.below pages.old }
+    ensures causes { Causes result (P.Pages.failures pages.old) (P.Pages.failures pages.new)
+        (P.Pages.count pages.new ≡ (P.Pages.limits (P.Pages.below pages.new)).most) }
+{
+    let depth = depth_below(pages, root, WAYS)?;
+    let mut scratch = Vec::new(alloc);
+    match removed_below(alloc, pages, root, depth, key, rest, &mut scratch)? {
+        Loss::Still => Ok(None),
+        Loss::Done(more) => Ok(Some(more)),
+        Loss::Spread(packed) => {
+            settle(alloc, pages, root, &packed, depth == WAYS)?;
+            Ok(Some(0))
+        }
     }
 }
 
@@ -198,18 +261,48 @@ pub fn remove<P: WritePages>(
     ensures causes { Causes result (P.Pages.failures pages.old) (P.Pages.failures pages.new)
         (P.Pages.count pages.new ≡ (P.Pages.limits (P.Pages.below pages.new)).most) }
 {
-    let depth = depth_below(pages, root, WAYS)?;
     let key = Key {
         columns,
         values: entry,
     };
-    let mut scratch = Vec::new(alloc);
-    match removed_below(alloc, pages, root, depth, key, &mut scratch)? {
-        Loss::Still => Ok(false),
-        Loss::Done => Ok(true),
-        Loss::Spread(packed) => {
-            settle(alloc, pages, root, &packed, depth == WAYS)?;
-            Ok(true)
-        }
+    Ok(removed(alloc, pages, root, key, &[])?.is_some())
+}
+
+/// The first, and so many more: at most `most` in all.
+fn with_first(more: usize, most: usize) -> usize
+    ensures counted { more < most → result ≡ more + 1 }
+    ensures within { result ≤ most }
+{
+    more.saturating_add(1).min(most)
+}
+
+/// Takes the first of these entries out of the tree under this root, and with it as many of those after it, in their order, as lie whole on the
+/// same leaf and are taken off it in place: how many in all. Answers 0 if none is given or the first isn't there: then nothing changes. (What
+/// `remove` refuses.)
+pub fn remove_run<P: WritePages>(
+    alloc: Global,
+    pages: &mut P,
+    root: u32,
+    columns: &[Collation],
+    entries: &[Many<Value>],
+) -> R<usize>
+    ensures removed { IsTrue (P.Pages.tells (P.Pages.below pages.old))
+        → RemovesRun (P.Pages.map pages.old) (P.Pages.map pages.new)
+        (P.Pages.limits (P.Pages.below pages.old)).page root columns.now entries.now result }
+    ensures within { IfOk result (λ count. count ≤ length entries.now) }
+    ensures kept { P.Pages.below pages.new ≡ P.Pages.below pages.old }
+    ensures causes { Causes result (P.Pages.failures pages.old) (P.Pages.failures pages.new)
+        (P.Pages.count pages.new ≡ (P.Pages.limits (P.Pages.below pages.new)).most) }
+{
+    let Some((first, rest)) = entries.split_first() else {
+        return Ok(0);
+    };
+    let key = Key {
+        columns,
+        values: first.as_slice(),
+    };
+    match removed(alloc, pages, root, key, rest)? {
+        Some(more) => Ok(with_first(more, entries.len())),
+        None => Ok(0),
     }
 }

@@ -9,9 +9,10 @@ use Rattle.tree_page.specs.Bytes.{two_bytes}
 use Rattle.tree_page.specs.Cells.{Span, pointer, Pairwise, IsAt, front}
 use Rattle.tree_page.specs.Node.{Node, IsNode, right_of}
 use Rattle.tree_page.proofs.HeaderLemmas.{same_length}
-use Rattle.tree_pack.specs.Freeing.{AreClear, EndsBefore, IsBeforeClear, IsFreedBehind, counted, greatest_in}
+use Rattle.tree_pack.specs.Freeing.{AreClear, ArePointers, EndsBefore, IsBeforeClear, IsFreedBehind, counted, greatest_in}
 use Rattle.tree_pack.specs.declared.freeing.Freed.{Freed}
 use Rattle.tree_pack.specs.declared.freeing.FreeblockHead.{FreeblockHead}
+use Rattle.tree_pack.specs.declared.freeing.Pointers.{Pointers}
 use Rattle.tree_pack.specs.Replacing.{no_span, IsCellAt}
 use Rattle.tree_pack.specs.declared.replacing.CellPlace.{CellPlace}
 use Rattle.tree_pack.proofs.PlacingLemmas.{pointers_between}
@@ -69,38 +70,36 @@ nat_split (suc a) (suc b) = by (nat_split a b)
 -- ---- a span with bytes that begins last of those before a limit
 
 -- each other one ends before it begins, or begins at the limit or after it
-one_clear : (limit at : ℕ) (one span : Span) → limit ≡ at + 4 → one.from < one.to → one.to ≤ at → (span.from < limit) ⊎ (limit ≤ span.from) → Beside one span → IsUpTo limit one.from span → (span.to ≤ at) ⊎ (at + 4 ≤ span.from)
-one_clear limit at one span limit_is some ends (inr past) beside upto = inr (omega (arith, past, limit_is))
-one_clear limit at one span limit_is some ends (inl lt) (inl (inl before)) upto = inl (omega (arith, before, some, ends))
-one_clear limit at one span limit_is some ends (inl lt) (inl (inr after)) upto = absurd (let le = upto lt in omega (arith, after, le, some))
-one_clear limit at one span limit_is some ends (inl lt) (inr (inl after)) upto = absurd (let le = upto lt in omega (arith, after, le, some))
-one_clear limit at one span limit_is some ends (inl lt) (inr (inr before)) upto = inl (omega (arith, before, some, ends))
+one_clear : (limit at : ℕ) (one span : Span) → one.from < one.to → one.to ≤ at → (span.from < limit) ⊎ (limit ≤ span.from) → Beside one span → IsUpTo limit one.from span → (span.to ≤ at) ⊎ (limit ≤ span.from)
+one_clear limit at one span some ends (inr past) beside upto = inr past
+one_clear limit at one span some ends (inl lt) (inl (inl before)) upto = inl (omega (arith, before, some, ends))
+one_clear limit at one span some ends (inl lt) (inl (inr after)) upto = absurd (let le = upto lt in omega (arith, after, le, some))
+one_clear limit at one span some ends (inl lt) (inr (inl after)) upto = absurd (let le = upto lt in omega (arith, after, le, some))
+one_clear limit at one span some ends (inl lt) (inr (inr before)) upto = inl (omega (arith, before, some, ends))
 
-all_clear : (limit at : ℕ) (one : Span) → limit ≡ at + 4 → one.from < one.to → one.to ≤ at → (spans : List Span) → AllByRecursion (Beside one) spans → AllByRecursion (IsUpTo limit one.from) spans → AreClear at spans
-all_clear limit at one limit_is some ends [] beside upto = tt
-all_clear limit at one limit_is some ends (span ∷ spans) beside upto = (one_clear limit at one span limit_is some ends (nat_split span.from limit) beside.0 upto.0, all_clear limit at one limit_is some ends spans beside.1 upto.1)
+all_clear : (limit at : ℕ) (one : Span) → one.from < one.to → one.to ≤ at → (spans : List Span) → AllByRecursion (Beside one) spans → AllByRecursion (IsUpTo limit one.from) spans → AreClear at limit spans
+all_clear limit at one some ends [] beside upto = tt
+all_clear limit at one some ends (span ∷ spans) beside upto = (one_clear limit at one span some ends (nat_split span.from limit) beside.0 upto.0, all_clear limit at one some ends spans beside.1 upto.1)
 
-pub others_and_one : (limit at : ℕ) (n : ℕ) (spans : List Span) → limit ≡ at + 4 → (slice_index_or spans n no_span).from < (slice_index_or spans n no_span).to → (slice_index_or spans n no_span).to ≤ at → n < length spans
-    → Others n (Beside (slice_index_or spans n no_span)) spans → AllByRecursion (IsUpTo limit (slice_index_or spans n no_span).from) spans → AreClear at spans
-others_and_one limit at n [] limit_is some ends lt others upto = absurd (omega (arith, lt))
-others_and_one limit at zero (span ∷ spans) limit_is some ends lt others upto = (inl ends, all_clear limit at span limit_is some ends spans others upto.1)
-others_and_one limit at (suc n) (span ∷ spans) limit_is some ends lt others upto = (one_clear limit at (slice_index_or spans n no_span) span limit_is some ends (nat_split span.from limit) others.0 upto.0, others_and_one limit at n spans limit_is some ends (omega (arith, lt)) others.1 upto.1)
+pub others_and_one : (limit at : ℕ) (n : ℕ) (spans : List Span) → (slice_index_or spans n no_span).from < (slice_index_or spans n no_span).to → (slice_index_or spans n no_span).to ≤ at → n < length spans
+    → Others n (Beside (slice_index_or spans n no_span)) spans → AllByRecursion (IsUpTo limit (slice_index_or spans n no_span).from) spans → AreClear at limit spans
+others_and_one limit at n [] some ends lt others upto = absurd (omega (arith, lt))
+others_and_one limit at zero (span ∷ spans) some ends lt others upto = (inl ends, all_clear limit at span some ends spans others upto.1)
+others_and_one limit at (suc n) (span ∷ spans) some ends lt others upto = (one_clear limit at (slice_index_or spans n no_span) span some ends (nat_split span.from limit) others.0 upto.0, others_and_one limit at n spans some ends (omega (arith, lt)) others.1 upto.1)
 
 -- ---- the cells of a page
 
-module _ (page : List ℕ) (start : ℕ) (node : Node) (is : IsNode page start node) (limit at : ℕ) (limit_is : limit ≡ at + 4) (greatest : ℕ) where
+module _ (page : List ℕ) (start : ℕ) (node : Node) (is : IsNode page start node) (limit at : ℕ) (greatest : ℕ) where
   abbrev spans : List Span
   spans = is.page_is.spans
 
-  pub up_to : (place : ℕ) (found : CellPlace) → IsCellAt page start node is place found → greatest ≡ greatest_in limit 0 (take (found.last - found.first) (drop found.first page)) → AllByRecursion (IsUpTo limit greatest) spans
-  up_to place found cell e =
-      let first_is = cell.first_is in
-      let last_is = cell.last_is in
-      let there = pointers_between page start node is found.first found.last first_is (omega (arith, first_is, last_is)) in
+  pub up_to : (pointers : Pointers) → ArePointers is pointers → greatest ≡ greatest_in limit 0 (take (pointers.last - pointers.first) (drop pointers.first page)) → AllByRecursion (IsUpTo limit greatest) spans
+  up_to pointers are e =
+      let there = pointers_between page start node is pointers.first pointers.last are.first_is are.last_is in
       all_up_to page limit 0 greatest spans is.cells (e ∙ ap (greatest_in limit 0) there) is.page_is.cells_are
 
   -- the cell that begins last before the limit ends before
-  pub clear_below : EndsBefore is greatest at → AllByRecursion (IsUpTo limit greatest) spans → AreClear at spans
+  pub clear_below : EndsBefore is greatest at → AllByRecursion (IsUpTo limit greatest) spans → AreClear at limit spans
   clear_below ends upto =
       let n = ends.place in
       let from_is = ends.from_is in
@@ -108,22 +107,29 @@ module _ (page : List ℕ) (start : ℕ) (node : Node) (is : IsNode page start n
       let there = ends.there in
       let size : length spans ≡ length is.cells = same_length (IsAt page) spans is.cells is.page_is.cells_are in
       let clear = clear_at (front start (length (right_of node)) (length is.cells) ∷ []) spans n (omega (arith, there, size)) is.page_is.apart in
-      others_and_one limit at n spans limit_is (omega (arith, from_is, some)) ends.ends (omega (arith, there, size)) clear.others (subst (λ (m : ℕ). AllByRecursion (IsUpTo limit m) spans) (sym from_is) upto)
+      others_and_one limit at n spans (omega (arith, from_is, some)) ends.ends (omega (arith, there, size)) clear.others (subst (λ (m : ℕ). AllByRecursion (IsUpTo limit m) spans) (sym from_is) upto)
 
   -- no cell begins before the limit
-  pub none_below : greatest ≡ 0 → AllByRecursion (IsUpTo limit greatest) spans → AreClear at spans
+  pub none_below : greatest ≡ 0 → AllByRecursion (IsUpTo limit greatest) spans → AreClear at limit spans
   none_below none upto = by spans (later_apart [] [] spans (front start (length (right_of node)) (length is.cells)) is.page_is.apart) upto
     where
-      one : (span : Span) → (span.from < limit) ⊎ (limit ≤ span.from) → Beside (front start (length (right_of node)) (length is.cells)) span → IsUpTo limit greatest span → (span.to ≤ at) ⊎ (at + 4 ≤ span.from)
-      one span (inr past) beside upto = inr (omega (arith, past, limit_is))
+      one : (span : Span) → (span.from < limit) ⊎ (limit ≤ span.from) → Beside (front start (length (right_of node)) (length is.cells)) span → IsUpTo limit greatest span → (span.to ≤ at) ⊎ (limit ≤ span.from)
+      one span (inr past) beside upto = inr past
       one span (inl lt) (inl (inl before)) upto = inl (omega (arith, before))
       one span (inl lt) (inl (inr after)) upto = absurd (let le = upto lt in omega (arith, after, le, none))
       one span (inl lt) (inr (inl after)) upto = absurd (let le = upto lt in omega (arith, after, le, none))
       one span (inl lt) (inr (inr before)) upto = inl (omega (arith, before))
 
-      by : (spans : List Span) → AllByRecursion (Beside (front start (length (right_of node)) (length is.cells))) spans → AllByRecursion (IsUpTo limit greatest) spans → AreClear at spans
+      by : (spans : List Span) → AllByRecursion (Beside (front start (length (right_of node)) (length is.cells))) spans → AllByRecursion (IsUpTo limit greatest) spans → AreClear at limit spans
       by [] beside upto = tt
       by (span ∷ spans) beside upto = (one span (nat_split span.from limit) beside.0 upto.0, by spans beside.1 upto.1)
+
+-- the pointers of a cell that is found are those of all cells
+pub of_cell : (page : List ℕ) (start : ℕ) (node : Node) (is : IsNode page start node) (place : ℕ) (found : CellPlace) (pointers : Pointers) → IsCellAt page start node is place found → pointers.first ≡ found.first → pointers.last ≡ found.last → ArePointers is pointers
+of_cell page start node is place found pointers cell first last =
+    let first_is = cell.first_is in
+    let last_is = cell.last_is in
+    record { first_is = first ∙ first_is; last_is = omega (arith, first, last, first_is, last_is) }
 
 -- a cell that is found with bytes ends before
 pub found_ends : (page : List ℕ) (start : ℕ) (node : Node) (is : IsNode page start node) (place : ℕ) (found : CellPlace) (from at : ℕ) → IsCellAt page start node is place found → found.at ≡ from → found.at < found.end → found.end ≤ at → EndsBefore is from at
@@ -134,10 +140,10 @@ found_ends page start node is place found from at cell from_is some ends =
     record { place = place; there = cell.there; from_is = cell.offset ∙ from_is; some = omega (arith, to_is, some, from_is); ends = omega (arith, to_is, ends) }
 
 -- a freeblock that begins where no cell has bytes
-pub behind_clear : (page : List ℕ) (start : ℕ) (node : Node) (is : IsNode page start node) (cell : CellPlace) (at : ℕ) (result : Option Freed) → IfSome result (IsFreedBehind cell at) → AreClear at is.page_is.spans → IfSome result (IsBeforeClear is)
+pub behind_clear : (page : List ℕ) (start : ℕ) (node : Node) (is : IsNode page start node) (cell : CellPlace) (at : ℕ) (result : Option Freed) → IfSome result (IsFreedBehind cell at) → AreClear at (at + 4) is.page_is.spans → IfSome result (IsBeforeClear is)
 behind_clear page start node is cell at None none clear = none
 behind_clear page start node is cell at (Some freed) so clear = by freed.before so.before
   where
-    by : (head : Option FreeblockHead) → IfSome head (λ head. (length head.bytes ≡ 4) × (head.at ≡ at)) → IfSome head (λ head. AreClear head.at is.page_is.spans)
+    by : (head : Option FreeblockHead) → IfSome head (λ head. (length head.bytes ≡ 4) × (head.at ≡ at)) → IfSome head (λ head. AreClear head.at (head.at + 4) is.page_is.spans)
     by None none = none
-    by (Some head) told = subst (λ (n : ℕ). AreClear n is.page_is.spans) (sym told.1) clear
+    by (Some head) told = subst (λ (n : ℕ). AreClear n (n + 4) is.page_is.spans) (sym told.1) clear

@@ -18,3 +18,5 @@ pub mod ReplacingLemmas
 pub mod RemovingLemmas
 pub mod FreeingLemmas
 pub mod RewritingLemmas
+pub mod SlotLemmas
+pub mod SlotPages

@@ -94,14 +94,14 @@ cell_stays low old new span cell is le at =
       near = at.near;
     }
 
-cells_stay : (low : ℕ) (old new : List ℕ) (spans : List Span) (cells : List (List ℕ)) → EndsSo low old new → AllByRecursion (λ span. low ≤ span.from) spans → Pairwise (IsAt old) spans cells → Pairwise (IsAt new) spans cells
+pub cells_stay : (low : ℕ) (old new : List ℕ) (spans : List Span) (cells : List (List ℕ)) → EndsSo low old new → AllByRecursion (λ span. low ≤ span.from) spans → Pairwise (IsAt old) spans cells → Pairwise (IsAt new) spans cells
 cells_stay low old new [] [] is behind are = tt
 cells_stay low old new [] (cell ∷ cells) is behind are = absurd are
 cells_stay low old new (span ∷ spans) [] is behind are = absurd are
 cells_stay low old new (span ∷ spans) (cell ∷ cells) is behind are = (cell_stays low old new span cell is behind.0 are.0, cells_stay low old new spans cells is behind.1 are.1)
 
 -- one pair more
-pairs_insert : {A B : Type 0} (P : A → B → Type 0) (xs : List A) (ys : List B) (place : ℕ) (x : A) (y : B) → P x y → Pairwise P xs ys → Pairwise P (insert xs place x) (insert ys place y)
+pub pairs_insert : {A B : Type 0} (P : A → B → Type 0) (xs : List A) (ys : List B) (place : ℕ) (x : A) (y : B) → P x y → Pairwise P xs ys → Pairwise P (insert xs place x) (insert ys place y)
 pairs_insert P [] [] zero x y is are = (is, tt)
 pairs_insert P [] [] (suc place) x y is are = (is, tt)
 pairs_insert P [] (b ∷ ys) place x y is are = absurd are
@@ -121,7 +121,7 @@ apart_more before others (span ∷ spans) one more clear apart = (
 )
 
 -- one span more among them
-apart_insert : (before spans : List Span) (place : ℕ) (one : Span) → AllByRecursion (IsApart one) before → AllByRecursion (IsApart one) spans → AllByRecursion (λ span. IsApart span one) spans → AreApart before spans
+pub apart_insert : (before spans : List Span) (place : ℕ) (one : Span) → AllByRecursion (IsApart one) before → AllByRecursion (IsApart one) spans → AllByRecursion (λ span. IsApart span one) spans → AreApart before spans
     → AreApart before (insert spans place one)
 apart_insert before [] zero one first mine theirs apart = (first, tt)
 apart_insert before [] (suc place) one first mine theirs apart = (first, tt)
@@ -133,7 +133,7 @@ ends_before : (one : Span) (low : ℕ) (spans : List Span) → one.to ≤ low �
 ends_before one low [] le behind = tt
 ends_before one low (span ∷ spans) le behind = (inl (omega (arith, le, behind.0)), ends_before one low spans le behind.1)
 
-begin_after : (one : Span) (low : ℕ) (spans : List Span) → one.to ≤ low → AllByRecursion (λ span. low ≤ span.from) spans → AllByRecursion (λ span. IsApart span one) spans
+pub begin_after : (one : Span) (low : ℕ) (spans : List Span) → one.to ≤ low → AllByRecursion (λ span. low ≤ span.from) spans → AllByRecursion (λ span. IsApart span one) spans
 begin_after one low [] le behind = tt
 begin_after one low (span ∷ spans) le behind = (inr (omega (arith, le, behind.0)), begin_after one low spans le behind.1)
 
@@ -312,80 +312,13 @@ new_parts kind page start right cells is middle low place cell le middle_is room
 -- ---- the bytes that are written over
 
 -- bytes over as many others
-over : (page before bytes old after : List ℕ) (at : ℕ) → page ≡ before ++ (old ++ after) → length before ≡ at → length old ≡ length bytes → written_over at bytes page ≡ before ++ (bytes ++ after)
+pub over : (page before bytes old after : List ℕ) (at : ℕ) → page ≡ before ++ (old ++ after) → length before ≡ at → length old ≡ length bytes → written_over at bytes page ≡ before ++ (bytes ++ after)
 over page before bytes old after at e size same =
     let grouped : page ≡ (before ++ old) ++ after = e ∙ sym (append_assoc before old after) in
     let end : length (before ++ old) ≡ at + length bytes = omega (arith, length-append before old, size, same) in
     let first : take at page ≡ before = ap (take at) e ∙ take_at before (old ++ after) at size in
     let last : drop (at + length bytes) page ≡ after = ap (drop (at + length bytes)) grouped ∙ drop_at (before ++ old) after (at + length bytes) end in
     ap (λ (x : List ℕ). x ++ (bytes ++ drop (at + length bytes) page)) first ∙ ap (λ (x : List ℕ). before ++ (bytes ++ x)) last
-
--- `placed_at`, of numbers
-abbrev pub over_thrice : List ℕ → ℕ → ℕ → ℕ → ℕ → ℕ → List ℕ → List ℕ
-over_thrice page start middle end count at cell =
-    written_over (start + 3) (to_be_bytes w16 count ++ to_be_bytes w16 at) (written_over middle (to_be_bytes w16 at ++ take (end - middle) (drop middle page)) (written_over at cell page))
-
--- the page's parts in other groups, as each of the three is written
-to_old_cell : (front inner lasts two gap old tail : List ℕ) → (front ++ inner) ++ (lasts ++ (two ++ (gap ++ (old ++ tail)))) ≡ (((front ++ inner) ++ (lasts ++ two)) ++ gap) ++ (old ++ tail)
-to_old_cell front inner lasts two gap old tail = simp append_assoc
-
-to_old_pointers : (front lasts two gap ends : List ℕ) → ((front ++ (lasts ++ two)) ++ gap) ++ ends ≡ front ++ ((lasts ++ two) ++ (gap ++ ends))
-to_old_pointers front lasts two gap ends = simp append_assoc
-
-to_old_count : (a count inner ends : List ℕ) → ((a ++ count) ++ inner) ++ ends ≡ a ++ (count ++ (inner ++ ends))
-to_old_count a count inner ends = simp append_assoc
-
-to_new : (a count mine inner lasts gap ends : List ℕ) → a ++ ((count ++ mine) ++ (inner ++ ((mine ++ lasts) ++ (gap ++ ends)))) ≡ a ++ (count ++ (mine ++ (inner ++ (mine ++ ((lasts ++ gap) ++ ends)))))
-to_new a count mine inner lasts gap ends = simp append_assoc
-
-new_parts_over : (kind : ℕ) (page : List ℕ) (start : ℕ) (right : List ℕ) (cells : List (List ℕ)) (is : IsTreePage kind page start right cells) (middle end low place : ℕ) (cell : List ℕ) → place ≤ length cells → middle ≡ start + 8 + length right + 2 * place → end ≡ start + 8 + length right + 2 * length cells
-    → start + 8 + length right + 2 * length cells + 2 + length cell ≤ low → low ≤ length page
-    → NewParts kind page start right cells is place (low - length cell) cell (drop low page) (over_thrice page start middle end (length cells + 1) (low - length cell) cell)
-new_parts_over kind page start right cells is middle end low place cell le middle_is end_is room within =
-    let at = low - length cell in
-    let h = halves kind page start right cells is place le in
-    let p = pieces kind page start right cells is place middle h middle_is in
-    let last_size = h.last_size in
-    let long = p.long in
-    let old_count = to_be_bytes w16 (length cells) ++ is.content in
-    let new_count = to_be_bytes w16 (length cells + 1) in
-    let mine = to_be_bytes w16 at in
-    let a = is.before ++ (kind ∷ is.freeblock) in
-    let inner = is.fragments ∷ (right ++ h.firsts) in
-    let c = (a ++ old_count) ++ inner in
-    let two = take 2 is.rest in
-    let after = drop 2 is.rest in
-    let gap = take (at - (end + 2)) after in
-    let others = drop (at - (end + 2)) after in
-    let old = take (length cell) others in
-    let tail = drop (length cell) others in
-    let size_two : length two ≡ 2 = length-take-le 2 is.rest (omega (arith, long, within, room, middle_is, last_size)) in
-    let size_after : length after ≡ length is.rest - 2 = length-drop 2 is.rest in
-    let size_gap : length gap ≡ at - (end + 2) = length-take-le (at - (end + 2)) after (omega (arith, size_after, long, within, room, middle_is, end_is, last_size)) in
-    let size_others : length others ≡ length after - (at - (end + 2)) = length-drop (at - (end + 2)) after in
-    let size_old : length old ≡ length cell = length-take-le (length cell) others (omega (arith, size_others, size_after, long, within, room, middle_is, end_is, last_size)) in
-    let rest_is : is.rest ≡ two ++ (gap ++ (old ++ tail)) =
-    sym (take-append-drop 2 is.rest) ∙ ap (λ (x : List ℕ). two ++ x) (sym (take-append-drop (at - (end + 2)) after) ∙ ap (λ (x : List ℕ). gap ++ x) (sym (take-append-drop (length cell) others))) in
-    let before = (c ++ (h.lasts ++ two)) ++ gap in
-    let size_before : length before ≡ at = omega (arith, length-append (c ++ (h.lasts ++ two)) gap, length-append c (h.lasts ++ two), length-append h.lasts two, p.size_c, last_size, size_two, size_gap, middle_is, end_is, room) in
-    let page_is : page ≡ before ++ (old ++ tail) = p.page_c ∙ ap (λ (x : List ℕ). c ++ (h.lasts ++ x)) rest_is ∙ to_old_cell (a ++ old_count) inner h.lasts two gap old tail in
-    let up : length (before ++ old) ≡ low = omega (arith, length-append before old, size_before, size_old, room) in
-    let tail_is : drop low page ≡ tail = ap (drop low) (page_is ∙ sym (append_assoc before old tail)) ∙ drop_at (before ++ old) tail low up in
-    let ends = cell ++ tail in
-    let first : written_over at cell page ≡ c ++ ((h.lasts ++ two) ++ (gap ++ ends)) = over page before cell old tail at page_is size_before size_old ∙ to_old_pointers c h.lasts two gap ends in
-    let lasts_long : length h.lasts ≡ end - middle = omega (arith, last_size, middle_is, end_is) in
-    let lasts_are : take (end - middle) (drop middle page) ≡ h.lasts = ap (take (end - middle)) (ap (drop middle) p.page_c ∙ drop_at c (h.lasts ++ is.rest) middle p.size_c) ∙ take_at h.lasts is.rest (end - middle) lasts_long in
-    let same_size : length (h.lasts ++ two) ≡ length (mine ++ h.lasts) = omega (arith, length-append h.lasts two, size_two) in
-    let second : written_over middle (mine ++ h.lasts) (written_over at cell page) ≡ c ++ ((mine ++ h.lasts) ++ (gap ++ ends)) =
-    over (written_over at cell page) c (mine ++ h.lasts) (h.lasts ++ two) (gap ++ ends) middle first p.size_c same_size in
-    let count_size : length old_count ≡ length (new_count ++ mine) = omega (arith, is.content_is) in
-    let third : written_over (start + 3) (new_count ++ mine) (written_over middle (mine ++ h.lasts) (written_over at cell page)) ≡ a ++ ((new_count ++ mine) ++ (inner ++ ((mine ++ h.lasts) ++ (gap ++ ends)))) =
-    over (written_over middle (mine ++ h.lasts) (written_over at cell page)) a (new_count ++ mine) old_count (inner ++ ((mine ++ h.lasts) ++ (gap ++ ends))) (start + 3) (second ∙ to_old_count a old_count inner ((mine ++ h.lasts) ++ (gap ++ ends))) p.size_a count_size in
-    let whole : over_thrice page start middle end (length cells + 1) at cell ≡ a ++ (new_count ++ (mine ++ (inner ++ (mine ++ ((h.lasts ++ gap) ++ ends))))) =
-    ap (λ (x : List ℕ). written_over (start + 3) (new_count ++ mine) (written_over middle (mine ++ x) (written_over at cell page))) lasts_are ∙ third ∙ to_new a new_count mine inner h.lasts gap ends in
-    let now : over_thrice page start middle end (length cells + 1) at cell ≡ a ++ (new_count ++ (mine ++ (inner ++ (mine ++ ((h.lasts ++ gap) ++ (cell ++ drop low page)))))) =
-    whole ∙ ap (λ (x : List ℕ). a ++ (new_count ++ (mine ++ (inner ++ (mine ++ ((h.lasts ++ gap) ++ (cell ++ x))))))) (sym tail_is) in
-    parts_with kind page start right cells is middle at place cell (drop low page) gap (over_thrice page start middle end (length cells + 1) at cell) h p le middle_is (omega (arith, size_gap, end_is, room)) now
 
 -- the new page has the cells of the old one, and this one
 page_placed : (kind : ℕ) (page : List ℕ) (start : ℕ) (right : List ℕ) (cells : List (List ℕ)) (is : IsTreePage kind page start right cells) (place low : ℕ) (cell new : List ℕ)
@@ -457,18 +390,6 @@ is_placed page start old new is middle low place count cell written le middle_is
     let whole : written ≡ placed_of page start middle (length is.cells + 1) low cell = e ∙ ap (λ (m : ℕ). placed_of page start middle m low cell) count_is in
     subst (IsPlaced page start (insert is.cells place cell) new) (sym whole)
     (says page start old new is low place cell (placed_of page start middle (length is.cells + 1) low cell) n le room within near some few behind same last say)
-
--- so does the page that is written over
-pub is_placed_over : (page : List ℕ) (start : ℕ) (old new : Node) (is : IsNode page start old) (middle end low place count at : ℕ) (cell : List ℕ) → place ≤ length is.cells → middle ≡ start + 8 + length (right_of old) + 2 * place
-    → end ≡ start + 8 + length (right_of old) + 2 * length is.cells → count ≡ length is.cells + 1 → at ≡ low - length cell → start + 8 + length (right_of old) + 2 * length is.cells + 2 + length cell ≤ low → low ≤ length page → low ≤ 2 ^ 16 → 0 < length cell
-    → length is.cells + 1 < 2 ^ 16 → AllByRecursion (λ span. low ≤ span.from) is.page_is.spans → code_of new ≡ code_of old → right_of new ≡ right_of old → Say (length page) (insert is.cells place cell) new
-    → IsPlaced page start (insert is.cells place cell) new (over_thrice page start middle end count at cell)
-is_placed_over page start old new is middle end low place count at cell le middle_is end_is count_is at_is room within near some few behind same last say =
-    let n = new_parts_over (code_of old) page start (right_of old) is.cells is.page_is middle end low place cell le middle_is end_is room within in
-    let whole : over_thrice page start middle end count at cell ≡ over_thrice page start middle end (length is.cells + 1) (low - length cell) cell =
-    ap (λ (m : ℕ). over_thrice page start middle end m at cell) count_is ∙ ap (λ (m : ℕ). over_thrice page start middle end (length is.cells + 1) m cell) at_is in
-    subst (IsPlaced page start (insert is.cells place cell) new) (sym whole)
-    (says page start old new is low place cell (over_thrice page start middle end (length is.cells + 1) (low - length cell) cell) n le room within near some few behind same last say)
 
 -- ---- the room
 

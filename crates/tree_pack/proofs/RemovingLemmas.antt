@@ -12,8 +12,8 @@ use Rattle.std.specs.Prelude.{Option, Some, None, Result, Ok, Err, IfOk, IfSome}
 use Rattle.sqlval.specs.declared.fault.Fault.{Fault}
 use Rattle.tree_pack.specs.Placing.{IsPlaced, Places}
 use Rattle.tree_pack.specs.Replacing.{written_over, no_span, IsCellAt, IsPlaceOn}
-use Rattle.tree_pack.specs.Freeing.{AreClear, IsFreed, IsOwn}
-use Rattle.tree_pack.specs.Removing.{IsHeadOn, with_head, without_pointer}
+use Rattle.tree_pack.specs.Freeing.{AreClear, IsFreed, IsHeadOn, IsOwn, with_head}
+use Rattle.tree_pack.specs.Removing.{without_pointer}
 use Rattle.tree_pack.specs.Splicing.{spliced, IsUsual}
 use Rattle.tree_pack.specs.declared.freeing.Free.{Free}
 use Rattle.tree_pack.specs.declared.freeing.Freed.{Freed}
@@ -101,7 +101,7 @@ behind_stays : (last : ℕ) (old new : List ℕ) → EndsSo last old new → (sp
 behind_stays last old new ends span cell (inl none) is = no_cell_stays old new span cell none is
 behind_stays last old new ends span cell (inr le) is = cell_stays last old new span cell ends le is
 
-up_to_kind : (before kind freeblock count content fragments rest : List ℕ) → before ++ ((kind ++ (freeblock ++ (count ++ (content ++ fragments)))) ++ rest) ≡ (before ++ kind) ++ ((freeblock ++ (count ++ (content ++ fragments))) ++ rest)
+pub up_to_kind : (before kind freeblock count content fragments rest : List ℕ) → before ++ ((kind ++ (freeblock ++ (count ++ (content ++ fragments)))) ++ rest) ≡ (before ++ kind) ++ ((freeblock ++ (count ++ (content ++ fragments))) ++ rest)
 up_to_kind before kind freeblock count content fragments rest = simp append_assoc
 
 up_to_right : (before header right firsts lasts : List ℕ) → before ++ (header ++ (right ++ (firsts ++ lasts))) ≡ (before ++ header) ++ ((right ++ firsts) ++ lasts)
@@ -266,7 +266,7 @@ page_without kind page start right cells is pointer_at last place count free lt 
     all_map (span ∷ spans) all = (behind_front (start + 8 + length right + 2 * length cells) (front start (length right) (length cells)) span refl refl all.0, all_map spans all.1)
 
 -- what is written behind the front, over bytes of no cell, leaves the page's cells
-page_cleared : (kind : ℕ) (page : List ℕ) (start : ℕ) (right : List ℕ) (cells : List (List ℕ)) (is : IsTreePage kind page start right cells) (at : ℕ) (bytes : List ℕ) → at + length bytes ≤ length page → start + 8 + length right + 2 * length cells ≤ at
+pub page_cleared : (kind : ℕ) (page : List ℕ) (start : ℕ) (right : List ℕ) (cells : List (List ℕ)) (is : IsTreePage kind page start right cells) (at : ℕ) (bytes : List ℕ) → at + length bytes ≤ length page → start + 8 + length right + 2 * length cells ≤ at
     → AllByRecursion (IsClear at (length bytes)) is.spans → Replaced kind page start right cells is cells (written_over at bytes page)
 page_cleared kind page start right cells is at bytes within after clear =
     let spans = is.spans in
@@ -324,7 +324,7 @@ less_head kind page start right cells is place mid less lt (Some head) can = les
 -- ---- the node
 
 -- the page says what its cells say
-says_so : (page written : List ℕ) (start : ℕ) (old new : Node) (cells : List (List ℕ)) → IsTreePage (code_of old) written start (right_of old) cells → length written ≡ length page → take start written ≡ take start page → code_of new ≡ code_of old
+pub says_so : (page written : List ℕ) (start : ℕ) (old new : Node) (cells : List (List ℕ)) → IsTreePage (code_of old) written start (right_of old) cells → length written ≡ length page → take start written ≡ take start page → code_of new ≡ code_of old
     → right_of new ≡ right_of old → Say (length page) cells new → IsPlaced page start cells new written
 says_so page written start old new cells of_old long front_same same last say =
     let of_new : IsTreePage (code_of new) written start (right_of new) cells =
@@ -451,7 +451,7 @@ over_is page start pointer_at last count free behind before within =
 
 -- the first bytes of the freeblock before are no other cell's
 before_clear : (page : List ℕ) (start : ℕ) (old : Node) (is : IsNode page start old) (place : ℕ) (found : CellPlace) → IsCellAt page start old is place found → found.at ≤ found.end → found.end ≤ length page → (head : FreeblockHead)
-    → (length head.bytes ≡ 4) × (found.last ≤ head.at) × (head.at + 4 ≤ found.at) → AreClear head.at (is.page_is).spans → IsHeadClear page (start + 8 + length (right_of old) + 2 * length is.cells) place (is.page_is).spans head
+    → (length head.bytes ≡ 4) × (found.last ≤ head.at) × (head.at + 4 ≤ found.at) → AreClear head.at (head.at + 4) (is.page_is).spans → IsHeadClear page (start + 8 + length (right_of old) + 2 * length is.cells) place (is.page_is).spans head
 before_clear page start old is place found cell proper within head so clear =
     let four = so.0 in
     let after = so.1 in
@@ -465,7 +465,7 @@ before_clear page start old is place found cell proper within head so clear =
 
 -- with the freeblocks that are written it says what the other cells say
 pub is_cut : (page : List ℕ) (start : ℕ) (old new : Node) (is : IsNode page start old) (place : ℕ) (found : CellPlace) (count : ℕ) (freed : Freed) (header : List ℕ) → IsCellAt page start old is place found → IsPlaceOn start (length page) found → count + 1 ≡ found.count
-    → header ≡ header_with count freed.free → IsFreed found freed → IfSome freed.before (λ head. AreClear head.at (is.page_is).spans) → found.end ≤ length page → code_of new ≡ code_of old → right_of new ≡ right_of old → Say (length page) (without place is.cells) new
+    → header ≡ header_with count freed.free → IsFreed found freed → IfSome freed.before (λ head. AreClear head.at (head.at + 4) (is.page_is).spans) → found.end ≤ length page → code_of new ≡ code_of old → right_of new ≡ right_of old → Say (length page) (without place is.cells) new
     → IsPlaced page start (without place is.cells) new (with_head freed.before (with_head freed.block (over_twice page start found.pointer found.last header)))
 is_cut page start old new is place found count freed header cell on count_is header_is told clear within same last say =
     let kind = code_of old in
@@ -484,7 +484,7 @@ is_cut page start old new is place found count freed header cell on count_is hea
     block_can None none = none
     block_can (Some head) own = own_clear page start old is place found cell within head own
 
-    before_can : (head : Option FreeblockHead) → IfSome head (λ head. (length head.bytes ≡ 4) × (found.last ≤ head.at) × (head.at + 4 ≤ found.at)) → IfSome head (λ head. AreClear head.at (is.page_is).spans)
+    before_can : (head : Option FreeblockHead) → IfSome head (λ head. (length head.bytes ≡ 4) × (found.last ≤ head.at) × (head.at + 4 ≤ found.at)) → IfSome head (λ head. AreClear head.at (head.at + 4) (is.page_is).spans)
         → IfSome head (IsHeadClear page (start + 8 + length (right_of old) + 2 * length is.cells) place (is.page_is).spans)
     before_can None none free = none
     before_can (Some head) so free = before_clear page start old is place found cell on.proper within head so free

@@ -1,17 +1,38 @@
--- The bytes of a page that become free when a cell goes (Database File Format, "B-tree Pages", on freeblocks).
-use Rattle.std.specs.Prelude.{◌≡◌, ◌⊎◌, ◌≤◌, ◌<◌, ◌+◌, ℕ, List, [], ◌∷◌, length, max, nat_lt, if◌then◌else◌, slice_index_or, IfSome}
+-- The bytes of a page that are free, or become so when a cell goes (Database File Format, "B-tree Pages", on freeblocks).
+use Rattle.std.specs.Prelude.{◌≡◌, ◌⊎◌, ◌≤◌, ◌<◌, ◌+◌, ◌*◌, ℕ, List, [], ◌∷◌, length, max, nat_lt, if◌then◌else◌, slice_index_or, Option, Some, None, IfSome}
 use Rattle.std.specs.List.{AllByRecursion}
 use Rattle.tree_page.specs.Bytes.{two_bytes}
 use Rattle.tree_page.specs.Cells.{Span}
-use Rattle.tree_page.specs.Node.{Node, IsNode}
-use Rattle.tree_pack.specs.Replacing.{no_span}
+use Rattle.tree_page.specs.Node.{Node, IsNode, right_of}
+use Rattle.tree_pack.specs.Replacing.{no_span, written_over}
 use Rattle.tree_pack.specs.declared.freeing.Freed.{Freed}
 use Rattle.tree_pack.specs.declared.freeing.FreeblockHead.{FreeblockHead}
+use Rattle.tree_pack.specs.declared.freeing.Pointers.{Pointers}
 use Rattle.tree_pack.specs.declared.replacing.CellPlace.{CellPlace}
 
--- none of these has one of the four bytes from an offset on
-abbrev pub AreClear : ℕ → List Span → Type 0
-AreClear at spans = AllByRecursion (λ span. (span.to ≤ at) ⊎ (at + 4 ≤ span.from)) spans
+-- the first bytes of a freeblock, which stand after the pointers on the page
+pub record IsHeadOn (end : ℕ) (page : List ℕ) (head : FreeblockHead) : Type 0 where
+  pub four : length head.bytes ≡ 4
+  pub after : end ≤ head.at
+  pub within : head.at + 4 ≤ length page
+
+-- the page with the first bytes of a freeblock, if there is one
+abbrev pub with_head : Option FreeblockHead → List ℕ → List ℕ
+with_head None page = page
+with_head (Some head) page = written_over head.at head.bytes page
+
+-- ---- bytes of no cell
+
+-- none of these has one of the bytes from one offset up to another
+abbrev pub AreClear : ℕ → ℕ → List Span → Type 0
+AreClear at end spans = AllByRecursion (λ span. (span.to ≤ at) ⊎ (end ≤ span.from)) spans
+
+-- the pointers of the page's cells begin and end there
+pub record ArePointers {page : List ℕ} {start : ℕ} {node : Node} (is : IsNode page start node) (pointers : Pointers) : Type 0 where
+  pub first_is : pointers.first ≡ start + 8 + length (right_of node)
+  pub last_is : pointers.last ≡ pointers.first + 2 * length is.cells
+
+-- ---- a cell that goes
 
 -- these are the first bytes of the freeblock that the cell becomes
 pub record IsOwn (cell : CellPlace) (head : FreeblockHead) : Type 0 where
@@ -26,7 +47,7 @@ pub record IsFreed (cell : CellPlace) (freed : Freed) : Type 0 where
 
 -- no cell of the page has one of the first bytes of the freeblock before
 abbrev pub IsBeforeClear : {page : List ℕ} {start : ℕ} {node : Node} → IsNode page start node → Freed → Type 0
-IsBeforeClear is freed = IfSome freed.before (λ head. AreClear head.at is.page_is.spans)
+IsBeforeClear is freed = IfSome freed.before (λ head. AreClear head.at (head.at + 4) is.page_is.spans)
 
 -- ---- how that is found out
 

@@ -9,5 +9,6 @@ pub mod Spreading
 pub mod Placing
 pub mod Replacing
 pub mod Freeing
+pub mod Slots
 pub mod Rewriting
 pub mod Removing

@@ -8,6 +8,7 @@ use Rattle.tree_page.specs.declared.items.Kind.{Kind}
 use Rattle.tree_page.specs.declared.items.Kind.TheVariants.{TableLeaf, TableInterior, IndexLeaf, IndexInterior}
 use Rattle.tree_page.specs.Bytes.{two_bytes}
 use Rattle.tree_page.specs.Node.{Node, IsNode, Say, code_of, right_of}
+use Rattle.tree_pack.specs.Freeing.{IsHeadOn, with_head}
 use Rattle.tree_pack.specs.Replacing.{written_over}
 use Rattle.tree_pack.specs.declared.placing.CellRoom.{CellRoom}
 
@@ -40,13 +41,12 @@ least_in most [] = most
 least_in most (high ∷ []) = most
 least_in most (high ∷ low ∷ pointers) = least_in (min most (two_bytes high low)) pointers
 
--- Between so many pointers, with one more, and this offset there is room for so many bytes, one at least.
+-- Between so many pointers, with one more, and this offset there is room for so many bytes.
 pub record HasRoom (page : List ℕ) (start size pointers count low : ℕ) : Type 0 where
   pub after : start + 8 ≤ pointers
   pub room : pointers + 2 * count + 2 + size ≤ low
   pub within : low ≤ length page
   pub near : low ≤ 2 ^ 16
-  pub some : 0 < size
   pub few : count + 1 < 2 ^ 16
 
 -- The page has so many cells, with their pointers from here on, and each begins at or after this offset.
@@ -67,19 +67,21 @@ placed_of page start middle count low cell =
 
 -- ---- the same page, written in its place
 
--- On a page there is room for so many bytes, and for a pointer before those that come after it.
+-- On a page there is room for so many bytes, and for a pointer before those that come after it; the freeblock that is written anew stands there too,
+-- after the pointers.
 pub record IsRoomOn (page : List ℕ) (start size : ℕ) (room : CellRoom) : Type 0 where
   pub after : start + 8 ≤ room.pointer
   pub upto : room.pointer ≤ room.end
   pub between : room.end + 2 ≤ room.at
   pub within : room.at + size ≤ length page
+  pub seven : length room.header ≡ 7
+  pub chain : IfSome room.head (IsHeadOn (room.end + 2) page)
 
--- the page with the cell, its pointer before those after it, and its count and first cell in the header
+-- The page with the cell, its pointer before those after it, the header with this cell, and the freeblock that is written anew.
 abbrev pub placed_at : CellRoom → ℕ → List ℕ → List ℕ → List ℕ
 placed_at room start cell page =
-    let pointer = to_be_bytes w16 room.at in
-    let pointers = pointer ++ take (room.end - room.pointer) (drop room.pointer page) in
-    written_over (start + 3) (to_be_bytes w16 room.count ++ pointer) (written_over room.pointer pointers (written_over room.at cell page))
+    let pointers = to_be_bytes w16 room.at ++ take (room.end - room.pointer) (drop room.pointer page) in
+    with_head room.head (written_over (start + 1) room.header (written_over room.pointer pointers (written_over room.at cell page)))
 
 -- Where a page says a node, and its cells with this one more say another of the same type and with the same last child, the page with the cell
 -- in this room says that one.

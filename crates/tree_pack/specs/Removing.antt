@@ -1,13 +1,13 @@
 -- One cell less on a page of a tree (Database File Format, "B-tree Pages").
-use Rattle.std.specs.Prelude.{◌≡◌, ◌≤◌, ◌+◌, ◌-◌, ℕ, List, [], ◌∷◌, ◌++◌, length, take, drop, IfSome, Option, Some, None}
+use Rattle.std.specs.Prelude.{◌≡◌, ◌≤◌, ◌+◌, ◌-◌, ℕ, List, [], ◌∷◌, ◌++◌, length, take, drop, IfSome, Option}
 use Rattle.std.specs.Int.{w16, to_be_bytes}
 use Rattle.tree_page.specs.Node.{Node, IsNode, Say, code_of, right_of}
+use Rattle.tree_pack.specs.Freeing.{IsHeadOn, with_head}
 use Rattle.tree_pack.specs.Placing.{IsPlaced}
 use Rattle.tree_pack.specs.Replacing.{written_over}
 use Rattle.tree_pack.specs.Splicing.{spliced, IsUsual}
 use Rattle.tree_pack.specs.declared.removing.CellCut.{CellCut}
 use Rattle.tree_pack.specs.declared.freeing.Free.{Free}
-use Rattle.tree_pack.specs.declared.freeing.FreeblockHead.{FreeblockHead}
 
 -- The page without the pointer at an offset, of those that end at another, with so many cells counted, and this said of its free bytes.
 abbrev pub without_pointer : List ℕ → ℕ → ℕ → ℕ → ℕ → Free → List ℕ
@@ -21,12 +21,6 @@ without_pointer page start pointer last count free =
 
 -- ---- the same page, written in its place
 
--- the first bytes of a freeblock, which stand after the pointers on the page
-pub record IsHeadOn (end : ℕ) (page : List ℕ) (head : FreeblockHead) : Type 0 where
-  pub four : length head.bytes ≡ 4
-  pub after : end ≤ head.at
-  pub within : head.at + 4 ≤ length page
-
 -- The cell's pointer stands after the header and before the end of the pointers, and the first bytes of the freeblock, and of the one before it, after
 -- them. All is on the page.
 pub record IsCutOn (page : List ℕ) (start : ℕ) (cut : CellCut) : Type 0 where
@@ -36,11 +30,6 @@ pub record IsCutOn (page : List ℕ) (start : ℕ) (cut : CellCut) : Type 0 wher
   pub head : length cut.header ≡ 7
   pub block : IfSome cut.block (IsHeadOn cut.end page)
   pub chain : IfSome cut.before (IsHeadOn cut.end page)
-
--- the page with the first bytes of a freeblock, if there is one
-abbrev pub with_head : Option FreeblockHead → List ℕ → List ℕ
-with_head None page = page
-with_head (Some head) page = written_over head.at head.bytes page
 
 -- The page with the pointers after the cell's one place before and two zero bytes after them, the header without the cell, the freeblock, and the one
 -- before it.

@@ -1,9 +1,10 @@
 //! Bytes of a page that become free: where its freeblocks lie, and what they say then.
 
-ghost use Rattle.std.specs.Prelude.{◌≡◌, ◌+◌, ◌≤◌, ℕ, length, IfSome, IsTrue, None};
+ghost use Rattle.std.specs.Prelude.{◌≡◌, ◌+◌, ◌≤◌, ℕ, [], ◌∷◌, ◌++◌, length, IfSome, IsTrue, None};
+ghost use Rattle.std.specs.Int.{w16, to_be_bytes};
 ghost use Rattle.tree_page.specs.Node.{Node, IsNode};
 ghost use Rattle.tree_pack.specs.Freeing as meant;
-ghost use Rattle.tree_pack.specs.Freeing.{AreClear, EndsBefore, IsBeforeClear, IsFreed, IsFreedBehind, IsOwn, greatest_in};
+ghost use Rattle.tree_pack.specs.Freeing.{AreClear, ArePointers, EndsBefore, IsBeforeClear, IsFreed, IsFreedBehind, IsOwn, greatest_in};
 ghost use Rattle.tree_pack.specs.Replacing.{IsCellAt};
 
 use crate::placing::first_pointer;
@@ -11,9 +12,16 @@ use crate::replacing::{CellPlace, cell_at};
 
 /// A freeblock: where it ends, and where the next one begins, or 0.
 #[derive(Clone, Copy)]
-struct Block {
-    end: usize,
-    next: u16,
+pub(crate) struct Block {
+    pub end: usize,
+    pub next: u16,
+}
+
+/// Where the pointers of all cells begin, and where they end.
+#[derive(Clone, Copy)]
+pub(crate) struct Pointers {
+    pub first: usize,
+    pub last: usize,
 }
 
 /// What a page says of its free bytes: where the first freeblock begins, or 0, and the first of the cells; and how many bytes are fragments.
@@ -43,7 +51,7 @@ pub(crate) struct Freed {
 }
 
 /// What the header says of the free bytes.
-fn free_of(page: &[u8], start: usize) -> Option<Free> {
+pub(crate) fn free_of(page: &[u8], start: usize) -> Option<Free> {
     match page.get(start..)? {
         [_, high, low, _, _, content_high, content_low, fragments, ..] => Some(Free {
             first: u16::from_be_bytes([*high, *low]),
@@ -54,8 +62,19 @@ fn free_of(page: &[u8], start: usize) -> Option<Free> {
     }
 }
 
+/// The header's bytes but the first, with so many cells counted and this said of the free bytes.
+pub(crate) fn header_of(count: u16, free: Free) -> [u8; 7]
+    ensures { result ≡ to_be_bytes w16 free.first ++ (to_be_bytes w16 count
+        ++ (to_be_bytes w16 free.content ++ (free.fragments ∷ []))) }
+{
+    let [a, b] = free.first.to_be_bytes();
+    let [c, d] = count.to_be_bytes();
+    let [e, f] = free.content.to_be_bytes();
+    [a, b, c, d, e, f, free.fragments]
+}
+
 /// The freeblock that begins at an offset.
-fn block_at(page: &[u8], at: u16) -> Option<Block> {
+pub(crate) fn block_at(page: &[u8], at: u16) -> Option<Block> {
     let at = usize::from(at);
     match page.get(at..)? {
         [high, low, size_high, size_low, ..] => Some(Block {
@@ -78,7 +97,7 @@ fn joined(page: &[u8], next: u16, end: usize) -> Option<(Block, u8)> {
 }
 
 /// The freeblock's own bytes: where the next one begins, and its size.
-fn block_bytes(next: u16, size: u16) -> [u8; 4] {
+pub(crate) fn block_bytes(next: u16, size: u16) -> [u8; 4] {
     let [a, b] = next.to_be_bytes();
     let [c, d] = size.to_be_bytes();
     [a, b, c, d]
@@ -198,22 +217,35 @@ fn ends_before(page: &[u8], start: usize, place: usize, pointer: u16, at: u16) -
     true
 }
 
-/// Whether no cell has one of the four bytes from an offset on: of those that begin before their end, the one that begins last ends before them.
-fn are_clear(page: &[u8], start: usize, cell: CellPlace, at: u16) -> bool
-    ensures { IsTrue result → (node : Node) (is : IsNode page.now start node) (place : ℕ)
-        → IsCellAt page.now start node is place cell → AreClear at is.page_is.spans }
+/// Whether no cell has one of the bytes from one offset up to another: of those that begin before their end, the one that begins last ends before
+/// them.
+pub(crate) fn are_clear(page: &[u8], start: usize, pointers: Pointers, at: u16, end: u16) -> bool
+    ensures { IsTrue result → (node : Node) (is : IsNode page.now start node) → ArePointers is pointers
+        → AreClear at end is.page_is.spans }
 {
-    let Some(limit) = at.checked_add(4) else {
+    let Some(bytes) = page.get(pointers.first..pointers.last) else {
         return false;
     };
-    let Some(pointers) = page.get(cell.first..cell.last) else {
-        return false;
-    };
-    let greatest = greatest_below(limit, pointers);
+    let greatest = greatest_below(end, bytes);
     if greatest == 0 {
         return true;
     }
-    ends_before(page, start, place_of(pointers, greatest), greatest, at)
+    ends_before(page, start, place_of(bytes, greatest), greatest, at)
+}
+
+/// Whether no cell has one of the four bytes from an offset on, by the pointers that a cell is found among.
+fn is_head_clear(page: &[u8], start: usize, cell: CellPlace, at: u16) -> bool
+    ensures { IsTrue result → (node : Node) (is : IsNode page.now start node) (place : ℕ)
+        → IsCellAt page.now start node is place cell → AreClear at (at + 4) is.page_is.spans }
+{
+    let Some(end) = at.checked_add(4) else {
+        return false;
+    };
+    let pointers = Pointers {
+        first: cell.first,
+        last: cell.last,
+    };
+    are_clear(page, start, pointers, at, end)
 }
 
 /// The freeblock before a cell, with the cell's bytes and the fewer than four between. None where the page counts fewer fragments.
@@ -260,7 +292,7 @@ fn freed_behind(page: &[u8], start: usize, cell: CellPlace, free: Free) -> Optio
     if before.end < usize::from(at) + 4
         || cell.at < before.end
         || usize::from(at) < cell.last
-        || !are_clear(page, start, cell, at)
+        || !is_head_clear(page, start, cell, at)
     {
         return None;
     }

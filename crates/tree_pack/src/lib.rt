@@ -10,6 +10,7 @@ mod placing;
 mod removing;
 mod replacing;
 mod rewriting;
+mod slots;
 mod splicing;
 mod spreading;
 

@@ -1,9 +1,12 @@
-//! Putting a cell into the room between the pointers and the other cells.
+//! Putting a cell into room on a page.
 
 ghost use Rattle.std.specs.Prelude.{◌≡◌, ◌≤◌, ◌<◌, ◌+◌, ◌*◌, ◌%◌, ◌/◌, ◌^◌, IfOk, IfErr, IfSome, length, slice_index_or};
 ghost use Rattle.tree_page.specs.Node.{Node, IsNode};
 ghost use Rattle.tree_pack.specs.Placing.{Places, PlacesAt, HasRoom, IsRoomOn, Lies, least_in, placed_of, right_width};
+ghost use Rattle.tree_pack.specs.Slots.{IsSlot, IsSlotClear};
 
+use crate::freeing::{Free, FreeblockHead, Pointers, free_of, header_of};
+use crate::slots::{Slot, in_freeblock};
 use sqlval::{Fault, R};
 use std::alloc::{AllocError, Global};
 use tree_page::{Kind, TreePage};
@@ -76,21 +79,35 @@ fn least_pointer(pointers: &[u8], most: usize) -> usize
     most.min(usize::from(least))
 }
 
-/// Where a cell has room.
+/// What room a page has before its cells.
 #[derive(Clone, Copy)]
 struct Room {
     /// Where the pointers begin.
     pointers: usize,
     /// How many there are.
     count: usize,
-    /// Where the first of the other cells begins.
+    /// Where the first of the cells begins.
     low: usize,
+    /// How many bytes a cell may have between the pointers, with one more, and the first of the cells.
+    gap: usize,
 }
 
-/// The room for a cell of so many bytes between the pointers and the other cells, if there is so much. None for no bytes, and where the
-/// header says that the cells begin elsewhere: something else may lie there then.
-fn find_room(page: &[u8], start: usize, size: usize) -> Option<Room>
-    ensures room { IfSome result (λ room. HasRoom page.now start size room.pointers room.count room.low) }
+/// How many of so many bytes before an offset are free: none where the header says that the cells begin elsewhere, since something else may lie
+/// there then.
+fn gap_before(page: &[u8], start: usize, low: usize, size: usize) -> usize
+    requires near { start ≤ length page.now }
+    ensures { result ≤ size }
+{
+    if stands_at(page, start + 5, (low % 65536) as u16) {
+        size
+    } else {
+        0
+    }
+}
+
+/// The room of a page before its cells, if a pointer more fits there. None for bytes that are no page of a tree.
+fn measured(page: &[u8], start: usize) -> Option<Room>
+    ensures room { IfSome result (λ room. HasRoom page.now start room.gap room.pointers room.count room.low) }
     ensures lies { (node : Node) (is : IsNode page.now start node)
         → IfSome result (λ room. Lies page.now start node is room.pointers room.count room.low) }
 {
@@ -104,48 +121,93 @@ fn find_room(page: &[u8], start: usize, size: usize) -> Option<Room>
     let pointers = start + 8 + right_len(tree.kind());
     let end = pointers + 2 * count;
     let low = least_pointer(page.get(pointers..end)?, page.len());
-    if size == 0 || low > 65536 {
+    if low > 65536 || low < end + 2 {
         return None;
     }
-    let is_first = stands_at(page, start + 5, (low % 65536) as u16);
-    if !is_first || low < end + 2 || low - (end + 2) < size {
-        return None;
-    }
+    let gap = gap_before(page, start, low, low - (end + 2));
     Some(Room {
         pointers,
         count,
         low,
+        gap,
     })
 }
 
-/// Where a cell comes on a page with room for it.
+/// The room for a cell of so many bytes between the pointers and the other cells, if there is so much. None for no bytes, and where the
+/// header says that the cells begin elsewhere.
+fn find_room(page: &[u8], start: usize, size: usize) -> Option<Room>
+    ensures some { IfSome result (λ room. 0 < size) }
+    ensures room { IfSome result (λ room. HasRoom page.now start size room.pointers room.count room.low) }
+    ensures lies { (node : Node) (is : IsNode page.now start node)
+        → IfSome result (λ room. Lies page.now start node is room.pointers room.count room.low) }
+{
+    let room = measured(page, start)?;
+    if size == 0 || room.gap < size {
+        return None;
+    }
+    Some(room)
+}
+
+/// Where a cell of so many bytes comes: before the first of the cells, or else in a freeblock.
+fn find_slot(page: &[u8], start: usize, room: Room, size: u16) -> Option<Slot>
+    requires room { HasRoom page.now start room.gap room.pointers room.count room.low }
+    ensures slot { IfSome result (IsSlot page.now size (room.pointers + 2 * room.count)) }
+    ensures clear { (node : Node) (is : IsNode page.now start node) → Lies page.now start node is room.pointers room.count room.low
+        → IfSome result (IsSlotClear is size) }
+{
+    let free = free_of(page, start)?;
+    if usize::from(size) <= room.gap {
+        let at = u16::try_from(room.low - usize::from(size)).ok()?;
+        let free = Free {
+            content: at,
+            ..free
+        };
+        return Some(Slot {
+            at,
+            free,
+            head: None,
+        });
+    }
+    let pointers = Pointers {
+        first: room.pointers,
+        last: room.pointers + 2 * room.count,
+    };
+    in_freeblock(page, start, pointers, size, free)
+}
+
+/// What is written on a page with room for a cell.
 #[derive(Clone, Copy)]
 pub struct CellRoom {
     /// Where its pointer comes, before those of the cells after it.
     pub pointer: usize,
     /// Where the pointers end before it comes.
     pub end: usize,
-    /// How many cells there are then.
-    pub count: u16,
     /// Where it begins.
     pub at: u16,
+    /// The header's bytes but the first: the first freeblock, how many cells there are then, where the first of them begins, and the fragments.
+    pub header: [u8; 7],
+    /// The first bytes of a freeblock, if one is written anew: the one whose end the cell takes, or that before the one that it takes whole.
+    pub head: Option<FreeblockHead>,
 }
 
-/// Where this cell comes on a page, before which stand as many as `place` says, in the room between the pointers and the other cells. None as for
-/// `place_cell`.
+/// Where this cell comes on a page, before which stand as many as `place` says, without any moving: in the room between the pointers and the other
+/// cells, or else in the first freeblock that is long enough. None where there isn't so much room, or where something else may lie there.
 pub fn room_for(page: &[u8], start: usize, place: usize, cell: &[u8]) -> Option<CellRoom>
     ensures room { IfSome result (IsRoomOn page.now start (length cell.now)) }
     ensures placed { PlacesAt page.now start place cell.now result }
 {
-    let room = find_room(page, start, cell.len())?;
+    let room = measured(page, start)?;
     if room.count < place {
         return None;
     }
+    let size = u16::try_from(cell.len()).ok()?;
+    let slot = find_slot(page, start, room, size)?;
     Some(CellRoom {
         pointer: room.pointers + 2 * place,
         end: room.pointers + 2 * room.count,
-        count: (room.count + 1) as u16,
-        at: (room.low - cell.len()) as u16,
+        at: slot.at,
+        header: header_of((room.count + 1) as u16, slot.free),
+        head: slot.head,
     })
 }
 

@@ -1,25 +1,13 @@
 //! Taking a cell off a page without moving the others.
 
 ghost use Rattle.std.specs.Prelude.{◌≡◌, ◌+◌, ◌≤◌, ◌<◌, ◌^◌, [], ◌∷◌, ◌++◌, length, IfErr, IfOk, IfSome};
-ghost use Rattle.std.specs.Int.{w16, to_be_bytes};
 ghost use Rattle.tree_pack.specs.Removing.{CutsAt, IsCutOn, without_pointer};
 ghost use Rattle.tree_pack.specs.Splicing.{SplicesOne};
 
-use crate::freeing::{Free, FreeblockHead, Freed, freed_by};
+use crate::freeing::{Free, FreeblockHead, freed_by, header_of};
 use crate::replacing::{CellPlace, cell_at, write_over};
 use sqlval::{Fault, R};
 use std::alloc::{AllocError, Global};
-
-/// The header's bytes but the first, with so many cells counted and this said of the free bytes.
-fn header_of(count: u16, free: Free) -> [u8; 7]
-    ensures { result ≡ to_be_bytes w16 free.first ++ (to_be_bytes w16 count
-        ++ (to_be_bytes w16 free.content ++ (free.fragments ∷ []))) }
-{
-    let [a, b] = free.first.to_be_bytes();
-    let [c, d] = count.to_be_bytes();
-    let [e, f] = free.content.to_be_bytes();
-    [a, b, c, d, e, f, free.fragments]
-}
 
 /// What is written on a page when a cell goes.
 #[derive(Clone, Copy)]

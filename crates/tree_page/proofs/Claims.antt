@@ -41,7 +41,7 @@ none_in (true ∷ xs) none i = absurd cc
 none_in (false ∷ xs) none zero = refl
 none_in (false ∷ xs) none (suc i) = none_in xs none i
 
-none_from : (xs : List Bool) → ((i : ℕ) → i < length xs → get_or xs i false ≡ false) → list_any (λ x. x) xs ≡ false
+pub none_from : (xs : List Bool) → ((i : ℕ) → i < length xs → get_or xs i false ≡ false) → list_any (λ x. x) xs ≡ false
 none_from [] h = refl
 none_from (x ∷ xs) h = rw (h 0 (omega arith)) (none_from xs (λ i lt. h (suc i) (omega arith)))
 
@@ -51,7 +51,7 @@ covers_within span k low high = rw (le-leb _ _ low, lt-ltb _ _ high) refl
 covers_below : (span : Span) (k : ℕ) → k < span.from → covers span k ≡ false
 covers_below span k low = rw (lt-leb _ _ low) refl
 
-covers_above : (span : Span) (k : ℕ) → span.to ≤ k → covers span k ≡ false
+pub covers_above : (span : Span) (k : ℕ) → span.to ≤ k → covers span k ≡ false
 covers_above span k high =
     elim (cases_lt k span.from) [ inl low ↦ covers_below span k low | inr from ↦ rw (le-leb _ _ from, le-ltb _ _ high) refl ]
 
@@ -129,7 +129,7 @@ taken_with taken span spans proper within are k =
       ]
     ]
 
-part_at : (taken : List Bool) (span : Span) (k : ℕ) → span.from ≤ k → k < span.to → get_or (slice_range taken span.from span.to) (k - span.from) false ≡ get_or taken k false
+pub part_at : (taken : List Bool) (span : Span) (k : ℕ) → span.from ≤ k → k < span.to → get_or (slice_range taken span.from span.to) (k - span.from) false ≡ get_or taken k false
 part_at taken span k low high =
     let place : span.from + (k - span.from) ≡ k = omega arith in
     get_or-take (span.to - span.from) (drop span.from taken) (k - span.from) false (omega arith) ∙ get_or-drop span.from taken (k - span.from) false ∙ ap (λ (n : ℕ). get_or taken n false) place

@@ -8,3 +8,4 @@ pub mod PayloadRows
 pub mod Claims
 pub mod CellsSay
 pub mod SaidPages
+pub mod FallingCells

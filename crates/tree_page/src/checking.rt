@@ -1,6 +1,6 @@
 //! Whether a page says something: its cells are there, and share no byte.
 
-ghost use Rattle.std.specs.Prelude.{◌≡◌, ◌⊎◌, ◌≤◌, Some, length, option_map, IfErr, OnOk};
+ghost use Rattle.std.specs.Prelude.{◌≡◌, ◌⊎◌, ◌≤◌, Some, length, option_map, IfErr, OnOk, IsTrue};
 ghost use Rattle.tree_page.specs.Bytes.{header_parts, header_on};
 ghost use Rattle.tree_page.specs.Node.{Node, IsNode};
 ghost use Rattle.tree_page.specs.Checking.{IsSaid, front_end, taken_up_to, claimed, claimed_from};
@@ -8,6 +8,26 @@ ghost use Rattle.tree_page.specs.Checking.{IsSaid, front_end, taken_up_to, claim
 use crate::cells::find_ends;
 use crate::header::{Header, front_len};
 use sqlval::{Damage, Fault, R};
+
+/// Whether each cell ends at or before the beginning of the one before it, and all of them begin after the pointers. False also
+/// where a cell isn't there.
+fn lie_in_falling_order(page: &[u8], start: usize, header: Header) -> bool
+    requires { header_on page.now start ≡ Some (header_parts header) }
+    ensures { IsTrue result → IsSaid (record { bytes = page.now; start = start }) }
+{
+    let front = front_len(start, header);
+    let mut low = page.len();
+    'cells: for index in 0..usize::from(header.len) {
+        let Some((from, to)) = find_ends(page, start, header, index) else {
+            return false;
+        };
+        if from < front || low < to {
+            return false;
+        }
+        low = from;
+    }
+    true
+}
 
 /// Takes the bytes from one offset up to another; None if one of them is taken.
 #[tactic(auto, unfolding(crate::specs::Checking::claimed))]
@@ -57,6 +77,9 @@ pub fn check_cells(page: &[u8], start: usize, header: Header, taken: &mut Vec<bo
     ensures refused { IfErr result (λ fault. (fault ≡ Fault.Memory)
         ⊎ (fault ≡ Fault.Damaged Damage.Cell 0)) }
 {
+    if lie_in_falling_order(page, start, header) {
+        return Ok(());
+    }
     let len = page.len();
     take_front(taken, front_len(start, header), len)?;
     claim_cells(page, start, header, taken).ok_or(Fault::Damaged(Damage::Cell, 0))

@@ -1,28 +1,18 @@
 -- A cell is taken off a page in parts, each written over the page: pointers, header, and the first bytes of freeblocks.
 use Rattle.std.proofs.Common.{◌≡◌, ℕ, ◌+◌, ◌-◌, ◌≤◌, List, [], ◌∷◌, ◌++◌, length, length-append, take, drop, sym, subst, ◌∙◌, arith}
 use Rattle.std.proofs.lemmas.List.{length-take-le, length-drop}
-use Rattle.std.specs.Prelude.{true, Option, Some, None, Ok, IfSome}
+use Rattle.std.specs.Prelude.{true, Some, Ok}
 use Rattle.pages.specs.Counting.{start_of}
 use Rattle.pages.specs.Map.{PageMap, page_at, with_page, written_over, Has, IsThere}
 use Rattle.tree_page.specs.Node.{Say}
-use Rattle.tree_pack.specs.Removing.{IsCutOn, IsHeadOn, CutsAt, cut_at, with_head}
+use Rattle.tree_pack.specs.Freeing.{with_head}
+use Rattle.tree_pack.specs.Removing.{IsCutOn, CutsAt, cut_at}
 use Rattle.tree_pack.specs.Splicing.{spliced, IsUsual}
-use Rattle.tree_pack.specs.declared.freeing.FreeblockHead.{FreeblockHead}
 use Rattle.tree_pack.specs.declared.removing.CellCut.{CellCut}
 use Rattle.tree_store.specs.Steps.{EndsOnPage, headed}
 use Rattle.tree_store.specs.Storing.{IsRewritten, TakesOff}
-use Rattle.tree_store.proofs.PlacedPages.{start_le, over_long, over_written, still_there}
+use Rattle.tree_store.proofs.PlacedPages.{head_fits, head_long, headed_is, start_le, over_long, over_written, still_there}
 use Rattle.tree_store.proofs.PutPages.{is_put}
-
--- ---- the first bytes of a freeblock
-
-headed_is : (map mid : PageMap) (number : ℕ) (page : List ℕ) → Has map number → mid ≡ with_page map number page → (head : Option FreeblockHead) → headed mid number head ≡ with_page map number (with_head head page)
-headed_is map mid number page has is None = is
-headed_is map mid number page has is (Some head) = over_written map mid number head.at head.bytes page has is
-
-head_long : (page now : List ℕ) → length now ≡ length page → (end : ℕ) (head : Option FreeblockHead) → IfSome head (IsHeadOn end page) → length (with_head head now) ≡ length page
-head_long page now same end None on = same
-head_long page now same end (Some head) on = (let four = on.four in let within = on.within in over_long head.at head.bytes now (omega (arith, four, within, same)) ∙ same)
 
 -- ---- the parts
 
@@ -54,10 +44,6 @@ module _ (map : PageMap) (size number : ℕ) (cut : CellCut) (on : IsCutOn (page
   two_long : length two ≡ length (page_at map number)
   two_long = (let long = one_long in let fit = header_fits in over_long (start_of number + 1) cut.header one (omega (arith, long, fit)) ∙ long)
 
-  ends_within : (head : Option FreeblockHead) → IfSome head (IsHeadOn cut.end (page_at map number)) → IsThere map size number → EndsOnPage size head
-  ends_within None on there = on
-  ends_within (Some head) on there = (let four = on.four in let within = on.within in let whole = there.whole in omega (arith, four, within, whole))
-
   pub first_fits : IsThere map size number → cut.pointer + length pointers ≤ size
   first_fits there = (let fit = pointers_fit in let whole = there.whole in omega (arith, fit, whole))
 
@@ -73,7 +59,7 @@ module _ (map : PageMap) (size number : ℕ) (cut : CellCut) (on : IsCutOn (page
 
   -- and after that the freeblock
   pub block_next : IsThere map size number → (mid last : PageMap) → mid ≡ with_page map number one → last ≡ with_page mid number (written_over (start_of number + 1) cut.header (page_at mid number)) → IsThere last size number × EndsOnPage size cut.block
-  block_next there mid last is then_is = (still_there map last size number two there.has (two_long ∙ there.whole) (twice there.has mid last is then_is), ends_within cut.block on.block there)
+  block_next there mid last is then_is = (still_there map last size number two there.has (two_long ∙ there.whole) (twice there.has mid last is then_is), head_fits map size number cut.end cut.block on.block there)
 
   three_is : Has map number → (mid last then : PageMap) → mid ≡ with_page map number one → last ≡ with_page mid number (written_over (start_of number + 1) cut.header (page_at mid number)) → then ≡ headed last number cut.block → then ≡ with_page map number (with_head cut.block two)
   three_is has mid last then is then_is next_is = next_is ∙ headed_is map last number two has (twice has mid last is then_is) cut.block
@@ -86,7 +72,7 @@ module _ (map : PageMap) (size number : ℕ) (cut : CellCut) (on : IsCutOn (page
       → IsThere then size number × EndsOnPage size cut.before
   chain_next there mid last then is then_is next_is = (
     still_there map then size number (with_head cut.block two) there.has (three_long ∙ there.whole) (three_is there.has mid last then is then_is next_is),
-    ends_within cut.before on.chain there,
+    head_fits map size number cut.end cut.before on.chain there,
   )
 
   -- these are the page without the cell

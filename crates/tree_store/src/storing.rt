@@ -54,13 +54,18 @@ fn pointers_with(alloc: Global, room: CellRoom, page: &[u8]) -> R<Vec<u8>>
     Ok(pointers)
 }
 
-/// What a page's header says of its cells: how many there are, and where the first begins.
-fn counted(room: CellRoom) -> [u8; 4]
-    ensures { result ≡ to_be_bytes w16 room.count ++ to_be_bytes w16 room.at }
+/// Writes the first bytes of a freeblock, if there is one. (What `write_over` refuses.)
+fn write_head<P: WritePages>(pages: &mut P, number: u32, head: Option<FreeblockHead>) -> R<()>
+    ensures written { IsTrue (P.Pages.tells (P.Pages.below pages.old))
+        → WritesHead (P.Pages.map pages.old) (P.Pages.map pages.new)
+        (P.Pages.limits (P.Pages.below pages.old)).page number head result }
+    ensures kept { P.Pages.below pages.new ≡ P.Pages.below pages.old }
+    ensures causes { Causes result (P.Pages.failures pages.old) (P.Pages.failures pages.new) ⊥ }
 {
-    let [high, low] = room.count.to_be_bytes();
-    let [first, second] = room.at.to_be_bytes();
-    [high, low, first, second]
+    if let Some(head) = head {
+        pages.write_over(number, head.at, &head.bytes)?;
+    }
+    Ok(())
 }
 
 /// Puts a cell on a page, before which stand as many as `place` says, if there is room for it without moving any. Answers whether there was;
@@ -87,7 +92,8 @@ pub fn place_on<P: WritePages>(
     let pointers = pointers_with(alloc, room, page)?;
     pages.write_over(number, usize::from(room.at), cell)?;
     pages.write_over(number, room.pointer, pointers.as_slice())?;
-    pages.write_over(number, start + 3, &counted(room))?;
+    pages.write_over(number, start + 1, &room.header)?;
+    write_head(pages, number, room.head)?;
     Ok(true)
 }
 
@@ -103,20 +109,6 @@ fn pointers_without(alloc: Global, cut: CellCut, page: &[u8]) -> R<Vec<u8>>
     pointers.extend_from_slice(&page[cut.pointer + 2..cut.end])?;
     pointers.extend_from_slice(&[0, 0])?;
     Ok(pointers)
-}
-
-/// Writes the first bytes of a freeblock, if there is one. (What `write_over` refuses.)
-fn write_head<P: WritePages>(pages: &mut P, number: u32, head: Option<FreeblockHead>) -> R<()>
-    ensures written { IsTrue (P.Pages.tells (P.Pages.below pages.old))
-        → WritesHead (P.Pages.map pages.old) (P.Pages.map pages.new)
-        (P.Pages.limits (P.Pages.below pages.old)).page number head result }
-    ensures kept { P.Pages.below pages.new ≡ P.Pages.below pages.old }
-    ensures causes { Causes result (P.Pages.failures pages.old) (P.Pages.failures pages.new) ⊥ }
-{
-    if let Some(head) = head {
-        pages.write_over(number, head.at, &head.bytes)?;
-    }
-    Ok(())
 }
 
 /// Takes the cell at a place off a page without moving any other, if its bytes can be told as free where they lie, and a cell is left. Answers

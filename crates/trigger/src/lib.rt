@@ -8,17 +8,26 @@ ghost use Rattle.trigger.specs.Laws.{BindsAlone, DeleteTakesChosen, DeleteTakesR
 pub use events::{RowEvent, is_still, sets_off};
 use row_change::{delete_takes_its_rows, insert_adds_its_rows, update_sets_its_rows};
 
-/// Where no trigger is set off, an INSERT adds its rows, or is refused as they are, and a DELETE takes all rows out, or those for which its condition is true.
+/// What sets no trigger off does nothing more, and the refusals of binding a change are its own there.
 pub fn only_tables_set_nothing_off()
     ensures still { SetsNothingOff }
     ensures binds { BindsAlone }
+{}
+
+/// Where no trigger is set off, an INSERT adds its rows, or is refused as they are.
+pub fn insert_sets_off_nothing()
     ensures refused { InsertIsRefused }
     ensures inserts { InsertAddsRows }
     ensures none { InsertOfNoneStays }
+{
+    insert_adds_its_rows();
+}
+
+/// Where no trigger is set off, a DELETE takes all rows out, or those for which its condition is true.
+pub fn delete_sets_off_nothing()
     ensures deletes { DeleteTakesRows }
     ensures chosen { DeleteTakesChosen }
 {
-    insert_adds_its_rows();
     delete_takes_its_rows();
 }
 

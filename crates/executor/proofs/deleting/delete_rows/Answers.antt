@@ -11,8 +11,8 @@ returns-in_err-table-clause-made g c told db held still =
       lists = c.other_rows_are_listed.ensures.lists;
       named = c.named_databases_are_one.ensures.named;
       binds = c.only_tables_set_nothing_off.ensures.binds;
-      deletes = c.only_tables_set_nothing_off.ensures.deletes;
-      chosen = c.only_tables_set_nothing_off.ensures.chosen;
+      deletes = c.delete_sets_off_nothing.ensures.deletes;
+      chosen = c.delete_sets_off_nothing.ensures.chosen;
     } in
     let plain : is_view_named (listed_in c.args.catalog.now) c.args.delete.now.table ≡ false = search rules in
     passed_on _ _ c.from_residual.result c.in_err-table.field-0.0 c.from_residual.ensures.1
@@ -24,8 +24,8 @@ returns-in_err-condition-clause-made g c told db held still =
       lists = c.other_rows_are_listed.ensures.lists;
       named = c.named_databases_are_one.ensures.named;
       binds = c.only_tables_set_nothing_off.ensures.binds;
-      deletes = c.only_tables_set_nothing_off.ensures.deletes;
-      chosen = c.only_tables_set_nothing_off.ensures.chosen;
+      deletes = c.delete_sets_off_nothing.ensures.deletes;
+      chosen = c.delete_sets_off_nothing.ensures.chosen;
     } in
     let plain : is_view_named (listed_in c.args.catalog.now) c.args.delete.now.table ≡ false = search rules in
     passed_on _ _ c.from_residual-in_err-condition.result c.in_err-condition.field-0.0 c.from_residual-in_err-condition.ensures.1
@@ -37,8 +37,8 @@ returns-clause-made g c told db held still =
       lists = c.other_rows_are_listed.ensures.lists;
       named = c.named_databases_are_one.ensures.named;
       binds = c.only_tables_set_nothing_off.ensures.binds;
-      deletes = c.only_tables_set_nothing_off.ensures.deletes;
-      chosen = c.only_tables_set_nothing_off.ensures.chosen;
+      deletes = c.delete_sets_off_nothing.ensures.deletes;
+      chosen = c.delete_sets_off_nothing.ensures.chosen;
     } in
     let plain : is_view_named (listed_in c.args.catalog.now) c.args.delete.now.table ≡ false = search rules in
     taking_makes laws _ _ (listed_in c.args.catalog.now) db held c.args.delete.now still plain c.in_ok-table.table.now c.in_ok-table.ensures.found

@@ -13,11 +13,12 @@ use Rattle.query_bind.specs.Named.{ArePlaced}
 use Rattle.row_scan.specs.Rows.{values_of}
 use Rattle.executor.specs.Reading.{AreEnoughFor}
 use Rattle.query_names.specs.declared.queries.Origin.TheVariants.{Tree}
+use Rattle.executor.proofs.ShownViews.{over_view, shown_read}
 use Rattle.executor.proofs.StreamedRows.{bound_over}
-use Rattle.std.proofs.Common.{suc, ◌-◌, arith, Some, None}
+use Rattle.std.proofs.Common.{ℕ, suc, ◌+◌, ◌-◌, ◌<◌, arith, Some, None}
 use Rattle.catalog.specs.Listed.{tables_of, views_of}
 use Rattle.query_names.specs.declared.queries.Origin.TheVariants as origin
-use Rattle.executor.specs.Reading.{LoadsSource, ReadsView, source_view}
+use Rattle.executor.specs.Reading.{IsStreamedView, LoadsSource, ReadsView, ShowsTable, source_view}
 use Rattle.executor.proofs.IndexTrees.{tree_loaded}
 use Rattle.executor.proofs.LoadedSources.{no_view, view_loaded}
 use Rattle.executor.proofs.ViewRows.{no_room, rows_made, rows_refused, unbound}
@@ -29,23 +30,39 @@ pub view_rows-returns-then-room-eq0-clause-read : goal.view_rows-returns-then-ro
 view_rows-returns-then-room-eq0-clause-read g t c = λ told.
     no_room c.listed_tables_are_found.ensures.finds (g.P.Pages.map c.args.pages.now) (g.P.Pages.limits (g.P.Pages.below c.args.pages.now)).page (listed_in c.args.catalog.now) c.args.view.now c.args.room c.if-room-eq0.true
 
-pub view_rows-returns-in_err-bound-clause-read : goal.view_rows-returns-in_err-bound-clause-read
-view_rows-returns-in_err-bound-clause-read g t c = λ told.
-    unbound c.listed_tables_are_found.ensures.finds (g.P.Pages.map c.args.pages.now) (g.P.Pages.limits (g.P.Pages.below c.args.pages.now)).page (listed_in c.args.catalog.now) c.args.view.now
-    c.views_are_known.ensures c.args.room c.in_err-bound.field-0.0 c.from_residual.result c.from_residual.ensures.1 c.in_err-bound.ensures.named
+pub view_rows-returns-in-Some-clause-read : goal.view_rows-returns-in-Some-clause-read
+view_rows-returns-in-Some-clause-read g t c = λ told.
+    (let some : 0 < c.args.room = omega (arith, c.if-room-eq0.false) in
+    let shows : ShowsTable (listed_in c.args.catalog.now) c.args.view.now c.in-Some.shown.table c.in-Some.shown.places.value.items = search rules in
+    shown_read c.rows_are_loaded_beside_conditions.ensures c.listed_tables_are_found.ensures.finds c.views_are_known.ensures (g.P.Pages.map c.args.pages.now)
+    (g.P.Pages.limits (g.P.Pages.below c.args.pages.now)).page (listed_in c.args.catalog.now) c.args.view.now c.in-Some.shown.table c.in-Some.shown.places.value.items
+    shows c.args.room c.shown_rows.result some (c.shown_rows.ensures.loaded told))
 
-pub view_rows-returns-in_err-rows-clause-read : goal.view_rows-returns-in_err-rows-clause-read
-view_rows-returns-in_err-rows-clause-read g t c = λ told.
-    (let some : c.args.room ≡ suc (c.args.room - 1) = omega (arith, c.if-room-eq0.false) in
+pub view_rows-returns-in-None-clause-read : goal.view_rows-returns-in-None-clause-read
+view_rows-returns-in-None-clause-read g t c = λ told.
+    (let some : c.args.room - 1 + 1 ≡ c.args.room = omega (arith, c.if-room-eq0.false) in
+    subst (λ (n : ℕ). ReadsView (g.P.Pages.map c.args.pages.now) (g.P.Pages.limits (g.P.Pages.below c.args.pages.now)).page (listed_in c.args.catalog.now) n c.args.view.now c.answered_rows.result) some
+    (c.answered_rows.ensures.read told))
+
+-- ---- by its query
+
+pub answered_rows-returns-in_err-bound-clause-read : goal.answered_rows-returns-in_err-bound-clause-read
+answered_rows-returns-in_err-bound-clause-read g t c = λ told.
+    unbound c.listed_tables_are_found.ensures.finds (g.P.Pages.map c.args.pages.now) (g.P.Pages.limits (g.P.Pages.below c.args.pages.now)).page (listed_in c.args.catalog.now) c.args.view.now
+    c.views_are_known.ensures (c.args.room + 1) c.in_err-bound.field-0.0 c.from_residual.result c.from_residual.ensures.1 c.in_err-bound.ensures.named
+
+pub answered_rows-returns-in_err-rows-clause-read : goal.answered_rows-returns-in_err-rows-clause-read
+answered_rows-returns-in_err-rows-clause-read g t c = λ told.
+    (let more : c.args.room + 1 ≡ suc c.args.room = omega arith in
     rows_refused c.listed_tables_are_found.ensures.finds (g.P.Pages.map c.args.pages.now) (g.P.Pages.limits (g.P.Pages.below c.args.pages.now)).page (listed_in c.args.catalog.now) c.args.view.now
-    c.views_are_known.ensures c.args.room (c.args.room - 1) some c.in_ok-bound.bound.reading (λ (rows : Vec (SmallVec Value) Global). map values_of rows.items) c.in_err-rows.field-0.0 c.from_residual-in_err-rows.result c.from_residual-in_err-rows.ensures.1
+    c.views_are_known.ensures (c.args.room + 1) c.args.room more c.in_ok-bound.bound.reading (λ (rows : Vec (SmallVec Value) Global). map values_of rows.items) c.in_err-rows.field-0.0 c.from_residual-in_err-rows.result c.from_residual-in_err-rows.ensures.1
     (λ db held is known. c.in_err-rows.ensures.answered told db held c.in_ok-bound.ensures.placed known) c.in_ok-bound.ensures.named)
 
-pub view_rows-returns-clause-read : goal.view_rows-returns-clause-read
-view_rows-returns-clause-read g t c = λ told.
-    (let some : c.args.room ≡ suc (c.args.room - 1) = omega (arith, c.if-room-eq0.false) in
+pub answered_rows-returns-clause-read : goal.answered_rows-returns-clause-read
+answered_rows-returns-clause-read g t c = λ told.
+    (let more : c.args.room + 1 ≡ suc c.args.room = omega arith in
     rows_made c.listed_tables_are_found.ensures.finds (g.P.Pages.map c.args.pages.now) (g.P.Pages.limits (g.P.Pages.below c.args.pages.now)).page (listed_in c.args.catalog.now) c.args.view.now
-    c.views_are_known.ensures c.args.room (c.args.room - 1) some c.in_ok-bound.bound.reading (λ (rows : Vec (SmallVec Value) Global). map values_of rows.items) c.in_ok-rows.rows c.made_rows.result c.made_rows.ensures
+    c.views_are_known.ensures (c.args.room + 1) c.args.room more c.in_ok-bound.bound.reading (λ (rows : Vec (SmallVec Value) Global). map values_of rows.items) c.in_ok-rows.rows c.made_rows.result c.made_rows.ensures
     (λ db held is known. c.in_ok-rows.ensures.answered told db held c.in_ok-bound.ensures.placed known) c.in_ok-bound.ensures.named)
 
 -- ---- a source
@@ -121,3 +138,11 @@ rows_within-returns-in-Some-clause-answered g t c told db stored placed known =
     bound_over (λ rows. map values_of rows.items) c.rows_are_loaded_beside_conditions.ensures (g.P.Pages.map c.args.pages.now) (g.P.Pages.limits (g.P.Pages.below c.args.pages.now)).page
     (listed_in c.args.catalog.now) c.args.room db stored bound.reading bound.origins c.in-Some.place c.streamed_rows.result only placed
     (c.streamed_rows.ensures.answered told (stored.rows_at c.in-Some.place.root))
+
+pub rows_within-returns-in-Some-2-clause-answered : goal.rows_within-returns-in-Some-2-clause-answered
+rows_within-returns-in-Some-2-clause-answered g t c told db stored placed known =
+    let bound = c.args.bound.now in
+    let is : IsStreamedView (listed_in c.args.catalog.now) c.args.room bound c.in-Some-2.shown.table c.in-Some-2.shown.places.value.items = search rules in
+    over_view (λ rows. map values_of rows.items) c.rows_are_loaded_beside_conditions.ensures c.listed_tables_are_found.ensures.finds c.views_are_known.ensures
+    (g.P.Pages.map c.args.pages.now) (g.P.Pages.limits (g.P.Pages.below c.args.pages.now)).page (listed_in c.args.catalog.now) c.args.room db stored bound
+    c.in-Some-2.shown.table c.in-Some-2.shown.places.value.items c.streamed_rows-in-Some-2.result is placed (c.streamed_rows-in-Some-2.ensures.answered told)

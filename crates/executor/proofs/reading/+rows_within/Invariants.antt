@@ -7,6 +7,9 @@ use Rattle.executor.proofs.reading.+rows_within.Given as goal
 abbrev pub decreases-view_rows : goal.decreases-view_rows
 decreases-view_rows g l = l.room * 8 + 1
 
+abbrev pub decreases-answered_rows : goal.decreases-answered_rows
+decreases-answered_rows g l = l.room * 8 + 6
+
 abbrev pub decreases-rows_of_source : goal.decreases-rows_of_source
 decreases-rows_of_source g l = l.room * 8 + 2
 

@@ -3,33 +3,34 @@ use Rattle.std.specs.Prelude.{⊤}
 use Rattle.pages.specs.Calls.{Stays}
 use Rattle.query_answer.specs.Nesting.{beside_rows}
 use Rattle.row_scan.specs.Rows.{values_of}
+use Rattle.row_scan.specs.Sources.{places_shown}
 use Rattle.executor.proofs.StreamedRows.{all_streamed, leaf_refused, leaf_streamed, leaf_unread, none_streamed}
 use Rattle.executor.proofs.reading.streamed_rows.Goals as goal
 
 pub leaves-init : goal.leaves-init
 leaves-init g c =
     let gs = g.P.Pages in
-    none_streamed gs.below gs.tells gs.limits gs.map gs.count gs.failures c.args.pages.now c.args.reading.now c.args.table c.new-cursor.result.root c.new-cursor.result.next c.new-found.result
+    none_streamed gs.below gs.tells gs.limits gs.map gs.count gs.failures c.args.pages.now c.args.reading.now c.args.table (places_shown c.args.shown) c.new-cursor.result.root c.new-cursor.result.next c.new-found.result
     c.rows_are_given_in_parts.ensures.none c.requires c.new-found.ensures c.new-cursor.ensures.root c.new-cursor.ensures.first
 
 pub returns-in_err-rows-clause-answered : goal.returns-in_err-rows-clause-answered
 returns-in_err-rows-clause-answered g c = λ told.
     (let gs = g.P.Pages in
-    leaf_unread gs.below gs.tells gs.limits gs.map gs.count gs.failures c.args.pages.now c.leaves.pages c.args.reading.now c.args.table c.leaves.cursor.root c.leaves.cursor.next c.next_source_rows.new.cursor.next c.leaves.found
+    leaf_unread gs.below gs.tells gs.limits gs.map gs.count gs.failures c.args.pages.now c.leaves.pages c.args.reading.now c.args.table (places_shown c.args.shown) c.leaves.cursor.root c.leaves.cursor.next c.next_shown_rows.new.cursor.next c.leaves.found
     c.leaves.invariant (λ rows. map values_of rows.items) c.in_err-rows.field-0.0 c.from_residual-in_err-rows.result c.rows_are_held.ensures c.from_residual-in_err-rows.ensures.1 c.in_err-rows.ensures.given told)
 
 pub leaves-preserved : goal.leaves-preserved
 leaves-preserved g c =
     let gs = g.P.Pages in
-    let stays : Stays gs.below gs.map gs.count gs.failures {T = ⊤} (Ok tt) c.args.pages.now c.next_source_rows.new.pages = search rules in
-    leaf_streamed gs.below gs.tells gs.limits gs.map gs.count gs.failures c.args.pages.now c.leaves.pages c.args.reading.now c.args.table c.leaves.cursor.root c.leaves.cursor.next c.next_source_rows.new.cursor.next c.leaves.found
-    c.leaves.invariant c.in_ok-rows.rows c.in_ok-rows.ensures.given c.next_source_rows.new.pages c.next_source_rows.new.cursor.root c.give_rows.new.found
+    let stays : Stays gs.below gs.map gs.count gs.failures {T = ⊤} (Ok tt) c.args.pages.now c.next_shown_rows.new.pages = search rules in
+    leaf_streamed gs.below gs.tells gs.limits gs.map gs.count gs.failures c.args.pages.now c.leaves.pages c.args.reading.now c.args.table (places_shown c.args.shown) c.leaves.cursor.root c.leaves.cursor.next c.next_shown_rows.new.cursor.next c.leaves.found
+    c.leaves.invariant c.in_ok-rows.rows c.in_ok-rows.ensures.given c.next_shown_rows.new.pages c.next_shown_rows.new.cursor.root c.give_rows.new.found
     c.in_ok-rows.ensures.root stays (c.in_ok-give_rows.ensures.given c.requires c.in_ok-filter.ensures.prepared)
 
 pub returns-in_err-give_rows-clause-answered : goal.returns-in_err-give_rows-clause-answered
 returns-in_err-give_rows-clause-answered g c = λ told.
     (let gs = g.P.Pages in
-    leaf_refused gs.below gs.tells gs.limits gs.map gs.count gs.failures c.args.pages.now c.leaves.pages c.args.reading.now c.args.table c.leaves.cursor.root c.leaves.cursor.next c.next_source_rows.new.cursor.next c.leaves.found
+    leaf_refused gs.below gs.tells gs.limits gs.map gs.count gs.failures c.args.pages.now c.leaves.pages c.args.reading.now c.args.table (places_shown c.args.shown) c.leaves.cursor.root c.leaves.cursor.next c.next_shown_rows.new.cursor.next c.leaves.found
     c.leaves.invariant c.in_ok-rows.rows c.in_ok-rows.ensures.given (λ rows. map values_of rows.items) c.in_err-give_rows.field-0.0 c.from_residual-in_err-give_rows.result c.rows_are_held.ensures
     c.rows_are_given_in_parts.ensures.refused c.requires c.from_residual-in_err-give_rows.ensures.1 (c.in_err-give_rows.ensures.given c.requires c.in_ok-filter.ensures.prepared) told)
 
@@ -37,7 +38,7 @@ pub returns-clause-answered : goal.returns-clause-answered
 returns-clause-answered g c = λ told.
     (let gs = g.P.Pages in
     let none : c.leaves.cursor.next ≡ None = search rules in
-    all_streamed gs.below gs.tells gs.limits gs.map gs.count gs.failures (λ rows. map values_of rows.items) c.args.pages.now c.leaves.pages c.args.reading.now c.args.table c.leaves.cursor.root c.leaves.cursor.next c.leaves.found
+    all_streamed gs.below gs.tells gs.limits gs.map gs.count gs.failures (λ rows. map values_of rows.items) c.args.pages.now c.leaves.pages c.args.reading.now c.args.table (places_shown c.args.shown) c.leaves.cursor.root c.leaves.cursor.next c.leaves.found
     c.finish.result c.leaves.invariant none c.rows_are_held.ensures c.finish.ensures.answered told)
 
 pub returns-clause-wide : goal.returns-clause-wide

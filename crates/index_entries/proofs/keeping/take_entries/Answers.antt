@@ -1,41 +1,49 @@
-use Rattle.std.proofs.Common.{rules, subst, sym, ◌∙◌, ℕ, List, length, map, take, drop, ◌-◌, Ok, Err}
+use Rattle.std.proofs.Common.{rules, ◌≡◌, subst, sym, ◌∙◌, ℕ, List, length, map, Ok, Err, arith}
 use Rattle.index_entries.specs.Entries.{Row}
-use Rattle.index_entries.specs.Keeping.{TakesEntries, TakesEntry, columns_in, row_in}
-use Rattle.index_entries.proofs.Looping.{first_of, none_left, since}
-use Rattle.index_entries.proofs.Turning.{takes_more, takes_stop, takes_none}
+use Rattle.index_entries.specs.Keeping.{TakesEntries, columns_in, row_in}
+use Rattle.index_entries.specs.Taking.{TakesBatch}
+use Rattle.index_entries.proofs.Gone.{batch_stops, rows_parted, then_rest}
+use Rattle.index_entries.proofs.Looping.{none_left, since}
+use Rattle.index_entries.proofs.Turning.{takes_none}
 use Rattle.index_entries.proofs.keeping.take_entries.Goals as goal
 
-pub returns-in_err-take_entry-clause-taken : goal.returns-in_err-take_entry-clause-taken
-returns-in_err-take_entry-clause-taken g c = λ told.
+pub returns-in_err-take_batch-clause-taken : goal.returns-in_err-take_batch-clause-taken
+returns-in_err-take_batch-clause-taken g c = λ told.
     (let pages = g.P.Pages in
     let old = c.args.pages.now in
-    let mid = c.rows.pages in
+    let mid = c.batches.pages in
+    let new = pages.map c.take_batch.new.pages in
     let size = (pages.limits (pages.below old)).page in
     let columns = columns_in c.args.columns.now in
-    let row = row_in c.row-item.result in
-    let fault = c.in_err-take_entry.field-0.0 in
-    let result = c.from_residual-in_err-take_entry.result in
-    let does = since pages.below pages.tells pages.limits old mid (λ (n : ℕ). TakesEntry (pages.map mid) (pages.map c.take_entry.new.pages) n c.args.root columns row (Err fault)) c.rows.invariant.kept c.in_err-take_entry.ensures.taken told in
-    let stops = takes_stop size c.args.root columns (pages.map mid) (pages.map c.take_entry.new.pages) row (map row_in (take (length c.rows.left.now - 1) (drop 1 c.rows.left.now))) fault result c.from_residual-in_err-take_entry.ensures.1 does in
-    c.rows.invariant.decides told (pages.map c.take_entry.new.pages) result
-    (subst (λ (rs : List Row). TakesEntries (pages.map mid) (pages.map c.take_entry.new.pages) size c.args.root columns rs result) (sym (first_of c.rows.left.now c.row-item.result c.in-len1-up.len_at_least c.row-item.is)) stops))
+    let batch = c.split_at.result.0.now in
+    let rest = c.split_at.result.1.now in
+    let fault = c.in_err-take_batch.field-0.0 in
+    let result = c.from_residual-in_err-take_batch.result in
+    let does = since pages.below pages.tells pages.limits old mid (λ (n : ℕ). TakesBatch (pages.map mid) new n c.args.root columns (map row_in batch) (Err fault)) c.batches.invariant.kept c.in_err-take_batch.ensures.taken told in
+    let parts = rows_parted c.min.result c.batches.left.now batch rest c.split_at.ensures.front c.split_at.ensures.back in
+    c.batches.invariant.decides told new result
+    (subst (λ (rs : List Row). TakesEntries (pages.map mid) new size c.args.root columns rs result) (sym parts)
+    (batch_stops size c.args.root columns (pages.map mid) new (map row_in batch) (map row_in rest) fault result c.from_residual-in_err-take_batch.ensures.1 does)))
 
-pub rows-preserved : goal.rows-preserved
-rows-preserved g c =
+pub batches-preserved : goal.batches-preserved
+batches-preserved g c =
     let pages = g.P.Pages in
     let old = c.args.pages.now in
-    let mid = c.rows.pages in
+    let mid = c.batches.pages in
+    let next = pages.map c.take_batch.new.pages in
     let size = (pages.limits (pages.below old)).page in
     let columns = columns_in c.args.columns.now in
-    let row = row_in c.row-item.result in
+    let batch = c.split_at.result.0.now in
+    let rest = c.split_at.result.1.now in
     record {
-      kept = c.in_ok-take_entry.ensures.kept ∙ c.rows.invariant.kept;
+      kept = c.in_ok-take_batch.ensures.kept ∙ c.batches.invariant.kept;
       causes = search rules;
-      decides = λ told new result rest.
-          (let does = since pages.below pages.tells pages.limits old mid (λ (n : ℕ). TakesEntry (pages.map mid) (pages.map c.take_entry.new.pages) n c.args.root columns row (Ok tt)) c.rows.invariant.kept c.in_ok-take_entry.ensures.taken told in
-          c.rows.invariant.decides told new result
-          (subst (λ (rs : List Row). TakesEntries (pages.map mid) new size c.args.root columns rs result) (sym (first_of c.rows.left.now c.row-item.result c.in-len1-up.len_at_least c.row-item.is))
-          (takes_more size c.args.root columns (pages.map mid) (pages.map c.take_entry.new.pages) new row _ result does rest)));
+      decides = λ told new result left.
+          (let does = since pages.below pages.tells pages.limits old mid (λ (n : ℕ). TakesBatch (pages.map mid) next n c.args.root columns (map row_in batch) (Ok tt)) c.batches.invariant.kept c.in_ok-take_batch.ensures.taken told in
+          let parts = rows_parted c.min.result c.batches.left.now batch rest c.split_at.ensures.front c.split_at.ensures.back in
+          c.batches.invariant.decides told new result
+          (subst (λ (rs : List Row). TakesEntries (pages.map mid) new size c.args.root columns rs result) (sym parts)
+          (then_rest size c.args.root columns (pages.map mid) next new (map row_in batch) (map row_in rest) result does left)));
     }
 
 pub returns-clause-taken : goal.returns-clause-taken
@@ -44,5 +52,5 @@ returns-clause-taken g c = λ told.
     let old = c.args.pages.now in
     let size = (pages.limits (pages.below old)).page in
     let columns = columns_in c.args.columns.now in
-    c.rows.invariant.decides told (pages.map c.rows.pages) (Ok tt)
-    (subst (λ (rs : List Row). TakesEntries (pages.map c.rows.pages) (pages.map c.rows.pages) size c.args.root columns rs (Ok tt)) (sym (none_left c.rows.left.now c.in_default.len_below)) (takes_none size c.args.root columns (pages.map c.rows.pages))))
+    c.batches.invariant.decides told (pages.map c.batches.pages) (Ok tt)
+    (subst (λ (rs : List Row). TakesEntries (pages.map c.batches.pages) (pages.map c.batches.pages) size c.args.root columns rs (Ok tt)) (sym (none_left c.batches.left.now (let none : length c.batches.left.now ≡ 0 = grind (arith, c.is_empty.ensures, c.batches-test.false) in omega (arith, none)))) (takes_none size c.args.root columns (pages.map c.batches.pages))))

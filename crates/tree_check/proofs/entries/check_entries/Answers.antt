@@ -1,74 +1,24 @@
-use Rattle.std.proofs.Common.{◌<◌, ℕ, [], length, Ok, sym, subst, arith}
-use Rattle.sqlval.specs.Faults.{IsNotDiskFault}
-use Rattle.tree_page.specs.Node.{Local, Entries, IsNode}
-use Rattle.tree_page.specs.Reading.{local_of}
-use Rattle.tree_table.proofs.Stayed.{damage_other}
-use Rattle.tree_check.proofs.EntryChecks.{entry_then, entries_stop, entries_end, entry_held}
-use Rattle.tree_check.proofs.Passed.{on_page}
-use Rattle.tree_check.proofs.Going.{goes_on, ends, stays_still, stays_stopped}
-use Rattle.tree_check.proofs.Turns.{marks_kept}
+use Rattle.std.proofs.Common.{◌≡◌, Ok, Err, List, rules, subst, sym}
+use Rattle.sqlval.specs.declared.value.Value.{Value}
+use Rattle.tree_page.specs.Cells.{Pairwise}
+use Rattle.tree_index.specs.Tree.{IsHeldAs}
+use Rattle.tree_check.specs.InOrder.{ChecksOrdered}
+use Rattle.tree_check.specs.IndexTrees.{chains_of, entries_in}
+use Rattle.tree_check.proofs.EntryChecks.{handed_on}
 use Rattle.tree_check.proofs.entries.check_entries.Goals as goal
 
-nothing : Local
-nothing = record { size = 0; bytes = [] }
-
-pub returns-in_err-leaf-clause-checked : goal.returns-in_err-leaf-clause-checked
-returns-in_err-leaf-clause-checked g c = λ map size told can said is sized.
-    absurd (c.in_err-leaf.ensures.only (Entries said) (subst (λ (n : ℕ). IsNode c.args.bytes.now n (Entries said)) (sym c.start_of.ensures) is))
-
-pub returns-in_err-local-clause-checked : goal.returns-in_err-local-clause-checked
-returns-in_err-local-clause-checked g c = λ map size told can said is sized.
-    (let on = on_page c.in_ok-leaf.leaf c.args.bytes.now _ c.start_of.result (Entries said) c.in_ok-leaf.ensures.place c.start_of.ensures is in
-    let count = c.len-index-end.ensures (Entries said) on in
-    absurd (c.in_err-local.ensures.only said nothing on (omega (arith, count, c.entries-test.true))))
-
-pub returns-in_err-local-clause-stays : goal.returns-in_err-local-clause-stays
-returns-in_err-local-clause-stays g c =
-    let p = g.P.Pages in
-    stays_still p.below p.tells p.limits p.map p.count p.failures marks_kept c.args.pages.now c.entries.pages (c.args.marks.now.items, c.args.last.now) (c.entries.marks.items, c.entries.last) _ _ c.entries.invariant
-    c.in_err-local.field-0.0 c.from_residual-in_err-local.result (subst IsNotDiskFault (sym c.in_err-local.ensures.refused) (damage_other _ 0)) c.from_residual-in_err-local.ensures.1
-
-pub returns-in_err-check_entry-clause-checked : goal.returns-in_err-check_entry-clause-checked
-returns-in_err-check_entry-clause-checked g c =
-    let p = g.P.Pages in
-    ends p.below p.tells p.limits p.map p.count p.failures marks_kept c.args.pages.now c.entries.pages (c.args.marks.now.items, c.args.last.now) (c.entries.marks.items, c.entries.last) _ _ c.entries.invariant
-    (c.check_entry.new.marks.items, c.check_entry.new.last) c.from_residual-in_err-check_entry.result
-    (λ map size told can said is sized. (
-    let on = on_page c.in_ok-leaf.leaf c.args.bytes.now _ c.start_of.result (Entries said) c.in_ok-leaf.ensures.place c.start_of.ensures is in
-    let count = c.len-index-end.ensures (Entries said) on in
-    let lt : c.entries.index < length said = omega (arith, count, c.entries-test.true) in
-    let local = local_of c.in_ok-local.local in
-    let there = c.in_ok-local.ensures.only said local on lt in
-    entries_stop map size said c.entries.index local c.args.columns.now c.entries.last c.check_entry.new.last c.check_entry.new.last c.entries.marks.items c.check_entry.new.marks.items c.check_entry.new.marks.items
-    c.in_err-check_entry.field-0.0 c.from_residual-in_err-check_entry.result lt there
-    (c.in_err-check_entry.ensures.checked map size told can (entry_held c.args.bytes.now _ size said c.entries.index local is sized lt there)) c.from_residual-in_err-check_entry.ensures.1))
-
-pub returns-in_err-check_entry-clause-stays : goal.returns-in_err-check_entry-clause-stays
-returns-in_err-check_entry-clause-stays g c =
-    let p = g.P.Pages in
-    stays_stopped p.below p.tells p.limits p.map p.count p.failures marks_kept c.args.pages.now c.entries.pages (c.args.marks.now.items, c.args.last.now) (c.entries.marks.items, c.entries.last) _ _ c.entries.invariant
-    c.in_err-check_entry.field-0.0 c.from_residual-in_err-check_entry.result c.check_entry.new.pages c.in_err-check_entry.ensures.stays c.from_residual-in_err-check_entry.ensures.1
-
-pub entries-preserved : goal.entries-preserved
-entries-preserved g c =
-    let p = g.P.Pages in
-    goes_on p.below p.tells p.limits p.map p.count p.failures marks_kept c.args.pages.now c.entries.pages (c.args.marks.now.items, c.args.last.now) (c.entries.marks.items, c.entries.last) _ _ c.entries.invariant
-    (Ok tt) c.check_entry.new.pages (c.check_entry.new.marks.items, c.check_entry.new.last) _ c.in_ok-check_entry.ensures.stays c.in_ok-check_entry.ensures.long
-    (λ map size told can after result rest said is sized. (
-    let on = on_page c.in_ok-leaf.leaf c.args.bytes.now _ c.start_of.result (Entries said) c.in_ok-leaf.ensures.place c.start_of.ensures is in
-    let count = c.len-index-end.ensures (Entries said) on in
-    let lt : c.entries.index < length said = omega (arith, count, c.entries-test.true) in
-    let local = local_of c.in_ok-local.local in
-    let there = c.in_ok-local.ensures.only said local on lt in
-    entry_then map size said c.entries.index local c.args.columns.now c.entries.last c.check_entry.new.last after.1 c.entries.marks.items c.check_entry.new.marks.items after.0 result lt there
-    (c.in_ok-check_entry.ensures.checked map size told can (entry_held c.args.bytes.now _ size said c.entries.index local is sized lt there)) (rest said is sized)))
+pub returns-in_err-check_each-clause-checked : goal.returns-in_err-check_each-clause-checked
+returns-in_err-check_each-clause-checked g c = λ map size told can said is sized.
+    (let seen : c.copied-seen.result ≡ c.args.last.now = search rules in
+    handed_on (Pairwise (IsHeldAs map size) said) chains_of entries_in c.args.columns.now c.args.last.now c.args.marks.now.items c.check_each.new.last _ c.check_each.new.marks.items _
+    c.in_err-check_each.field-0.0 c.from_residual.result
+    (subst (λ (l : List Value). ChecksOrdered (Pairwise (IsHeldAs map size) said) chains_of entries_in c.args.columns.now l c.check_each.new.last c.args.marks.now.items c.check_each.new.marks.items (Err c.in_err-check_each.field-0.0)) seen
+    (c.in_err-check_each.ensures.checked map size told can said is sized)) c.from_residual.ensures.1)
 
 pub returns-clause-checked : goal.returns-clause-checked
-returns-clause-checked g c =
-    let p = g.P.Pages in
-    ends p.below p.tells p.limits p.map p.count p.failures marks_kept c.args.pages.now c.entries.pages (c.args.marks.now.items, c.args.last.now) (c.entries.marks.items, c.entries.last) _ _ c.entries.invariant
-    (c.entries.marks.items, c.entries.last) (Ok tt)
-    (λ map size told can said is sized. (
-    let on = on_page c.in_ok-leaf.leaf c.args.bytes.now _ c.start_of.result (Entries said) c.in_ok-leaf.ensures.place c.start_of.ensures is in
-    let count = c.len-index-end.ensures (Entries said) on in
-    entries_end map size said c.entries.index c.args.columns.now c.entries.last c.entries.marks.items (omega (arith, count, c.entries-test.false))))
+returns-clause-checked g c = λ map size told can said is sized.
+    (let seen : c.copied-seen.result ≡ c.args.last.now = search rules in
+    let kept : c.in_ok-last.field-0 ≡ c.check_each.new.last = search rules in
+    subst (λ (l : List Value). ChecksOrdered (Pairwise (IsHeldAs map size) said) chains_of entries_in c.args.columns.now c.args.last.now l c.args.marks.now.items c.check_each.new.marks.items (Ok tt)) (sym kept)
+    (subst (λ (l : List Value). ChecksOrdered (Pairwise (IsHeldAs map size) said) chains_of entries_in c.args.columns.now l c.check_each.new.last c.args.marks.now.items c.check_each.new.marks.items (Ok tt)) seen
+    (c.in_ok-check_each.ensures.checked map size told can said is sized)))

@@ -12,4 +12,4 @@ returns-clause-placed c =
     let lies = c.in-Some.ensures.lies old is in
     let first = lies.pointers_are in
     let count = lies.count_is in
-    is_placed c.args.page.now c.args.start old new is (room.pointers + 2 * c.args.place) room.low c.args.place (room.count + 1) c.args.cell.now c.in_ok-write.field-0.items le (omega (arith, first)) (ap (λ n. n + 1) count) (omega (arith, first, count, fits)) has.within has.near has.some (omega (arith, count, few)) lies.behind same last say c.in_ok-write.ensures
+    is_placed c.args.page.now c.args.start old new is (room.pointers + 2 * c.args.place) room.low c.args.place (room.count + 1) c.args.cell.now c.in_ok-write.field-0.items le (omega (arith, first)) (ap (λ n. n + 1) count) (omega (arith, first, count, fits)) has.within has.near c.in-Some.ensures.some (omega (arith, count, few)) lies.behind same last say c.in_ok-write.ensures

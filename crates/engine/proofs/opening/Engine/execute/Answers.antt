@@ -1,13 +1,18 @@
-use Rattle.std.proofs.Common.{subst, sym}
+use Rattle.std.proofs.Common.{refl, subst, sym}
 use Rattle.session.specs.Machine.{Reply}
 use Rattle.session.specs.Representation.{rows_reply}
 use Rattle.session.proofs.Executing.{refused_as}
 use Rattle.sqlval.specs.declared.fault.Fault.{Fault}
+use Rattle.sql_parser.proofs.Grammar.{exact_statement}
+use Rattle.sql_parser.proofs.ParseLaws.{one_text}
 use Rattle.sql_parser.specs.Refusals.{IsTextRefusal}
+use Rattle.sql_syntax.specs.declared.statement.Statement.{Statement}
+use Rattle.session.specs.ConnectionState.{files_of}
+use Rattle.session.specs.CopiedBack.{KeepsDisksWhereShort}
 use Rattle.engine.proofs.Marked.{check_not_io, for_any, nothing_called}
 use Rattle.engine.proofs.PastLimits.{past_of}
 use Rattle.engine.proofs.Refusing.{full_of}
-use Rattle.engine.specs.Representation.{StepsByText}
+use Rattle.engine.specs.Representation.{StepsByText, files_in}
 use Rattle.engine.proofs.TextSteps.{executed, read_candidate, refused_check, refused_text, text_fault}
 use Rattle.engine.proofs.opening.Engine.execute.Goals as goal
 
@@ -32,6 +37,17 @@ returns-clause-full g c is =
       full_of _ c.execute-rows.result _ _ c.execute-rows.ensures.cause is,
       past_of _ c.args.connection statement c.execute-rows.result (sym c.in_ok-check.ensures) c.execute-rows.ensures.refused is,
     )
+
+pub returns-in_err-check-clause-early : goal.returns-in_err-check-clause-early
+returns-in_err-check-clause-early g c = λ s is mode checkpoint short. (refl, refl)
+
+pub returns-in_err-statement-clause-early : goal.returns-in_err-statement-clause-early
+returns-in_err-statement-clause-early g c = λ s is mode checkpoint short. (refl, refl)
+
+pub returns-clause-early : goal.returns-clause-early
+returns-clause-early g c = λ s is.
+    subst (λ (x : Statement). KeepsDisksWhereShort x (files_in c.args.self.now) c.execute-rows.result (files_of c.execute-rows.new.self))
+    (one_text exact_statement c.args.text.now c.in_ok-statement.statement s c.in_ok-statement.ensures.found.0 is) c.execute-rows.ensures.early
 
 pub returns-in_err-check-clause-step : goal.returns-in_err-check-clause-step
 returns-in_err-check-clause-step g c =
