@@ -15,15 +15,15 @@ use Rattle.catalog.specs.declared.tables.Table.{Table}
 use Rattle.query_terms.specs.Outcome.{AnswersBy, IsRefusedBy}
 use Rattle.query_terms.specs.Values.{Row}
 use Rattle.query_terms.specs.declared.tree.Place.{Place}
-use Rattle.query_names.specs.Readings.{Sortable, cut, in_order, once, rows_over}
+use Rattle.query_names.specs.Readings.{rows_over}
 use Rattle.query_names.specs.Views.{answer_of}
 use Rattle.query_names.specs.declared.queries.BoundSource.{BoundSource}
 use Rattle.query_names.specs.declared.reading.Condition.{Condition}
 use Rattle.query_names.specs.declared.reading.Reading.{Reading}
 use Rattle.query_bind.specs.Named.{ArePlaced, place_seen}
-use Rattle.query_answer.specs.Answers.{LoadsBeside, given_rows}
+use Rattle.query_answer.specs.Answers.{LoadsBeside}
 use Rattle.query_answer.specs.Nesting.{beside_rows, Named}
-use Rattle.query_answer.specs.Parts.{GiveNone, StayRefused, given_of, is_row_by_row}
+use Rattle.query_answer.specs.Parts.{Kept, StayRefused, is_row_by_row, part_of}
 use Rattle.row_scan.specs.Sources.{GivesShown, HoldRows, as_held, as_source, as_shown, shown_in, shown_source}
 use Rattle.row_scan.specs.Rows.{TableRow}
 use Rattle.row_scan.specs.Trees.{AnswersOrFails, HasRows}
@@ -36,13 +36,6 @@ use Rattle.catalog.specs.Listed.{Listed, table_named}
 use Rattle.query_names.specs.declared.queries.Origin.{Origin}
 use Rattle.query_names.specs.declared.queries.Origin.TheVariants.{Tree}
 
--- a query is refused where what it gives is
-refused_over : (q : Reading) (rows : List Row) (r : Refusal) → given_of q rows ≡ Err r → rows_over q [] (beside_rows q.sources (rows ∷ [])) ≡ Err r
-refused_over q rows r e = ap (λ (a : Answer (List Sortable)). a then λ found. finished (map (λ s. s.0) (cut q (in_order q (once q found))))) e
-  where
-    finished : Rows → Answer Rows
-    finished rows = Ok rows
-
 map_after : {X : Type 0} (g : Row → Row) (f : X → Row) (xs : List X) → map g (map f xs) ≡ map (λ x. g (f x)) xs
 map_after g f [] = refl
 map_after g f (x ∷ xs) = ap (λ (rows : List Row). g (f x) ∷ rows) (map_after g f xs)
@@ -54,25 +47,22 @@ shown_of_rows shown own entries rows e =
 
 module _ {P K : Type 0} (below : P → K) (tells : K → Bool) (limits : K → Limits) (pages : P → PageMap) (count : P → ℕ) (failures : P → ℕ × ℕ) where
   -- What is so after some leaves.
-  pub record HasStreamed (old now : P) (q : Reading) (table : BoundSource) (shown : Option (List Place)) (at_root : ℕ) (next : Option ℤ) (found : List Sortable) : Type 0 where
+  pub record HasStreamed (old now : P) (q : Reading) (table : BoundSource) (shown : Option (List Place)) (at_root : ℕ) (next : Option ℤ) (found : Kept) : Type 0 where
     pub stays : Stays below pages count failures {T = ⊤} (Ok tt) old now
     pub same_root : at_root ≡ table.root
     pub before : List Row
-    pub given : given_of q before ≡ Ok found
+    pub given : part_of q before ≡ Ok found
     pub are : IsTrue (tells (below old)) → (entries : List Entry) (used : List ℕ) → AreWhole (limits (below old)).page (pages old) → IsTableTree (pages old) (limits (below old)).page table.root entries used
         → map (as_shown shown table.shape.own) entries ≡ before ++ map (as_shown shown table.shape.own) (rows_from next entries)
 
-  pub none_streamed : (old : P) (q : Reading) (table : BoundSource) (shown : Option (List Place)) (at_root : ℕ) (next : Option ℤ) (found : List Sortable) → GiveNone → is_row_by_row q ≡ true → found ≡ [] → at_root ≡ table.root → BeginsAll next → HasStreamed old old q table shown at_root next found
-  none_streamed old q table shown at_root next found none is empty same begin = record {
+  pub none_streamed : (old : P) (q : Reading) (table : BoundSource) (shown : Option (List Place)) (at_root : ℕ) (next : Option ℤ) (found : Kept) → part_of q [] ≡ Ok found → at_root ≡ table.root → BeginsAll next → HasStreamed old old q table shown at_root next found
+  none_streamed old q table shown at_root next found none same begin = record {
     stays = record { kept = refl; same = refl; counted = refl; causes = record { db = omega arith; log = omega arith; why = tt } };
     same_root = same;
     before = [];
-    given = none q is ∙ ap (λ (l : List Sortable). good l) (sym empty);
+    given = none;
     are = λ told entries used whole tree. ap (map (as_shown shown table.shape.own)) (sym (begin (pages old) (limits (below old)).page table.root entries used tree));
   }
-    where
-      good : List Sortable → Answer (List Sortable)
-      good l = Ok l
 
   -- what a call says of the pages as they were
   since : (old mid : P) (root : ℕ) (shown : Option (List Place)) (own : Option ℕ) (at_root : ℕ) (next later : Option ℤ) (result : Result (List Row) Fault) → Stays below pages count failures {T = ⊤} (Ok tt) old mid → at_root ≡ root
@@ -82,7 +72,7 @@ module _ {P K : Type 0} (below : P → K) (tells : K → Bool) (limits : K → L
       (subst (λ (m : PageMap). GivesShown m (limits (below old)).page at_root shown own next later result) stays.same
       (subst (λ (k : K). GivesShown (pages mid) (limits k).page at_root shown own next later result) stays.kept (gives (subst (λ (k : K). IsTrue (tells k)) (sym stays.kept) told))))
 
-  module _ (old mid : P) (q : Reading) (table : BoundSource) (shown : Option (List Place)) (at_root : ℕ) (next later : Option ℤ) (found : List Sortable) (has : HasStreamed old mid q table shown at_root next found) where
+  module _ (old mid : P) (q : Reading) (table : BoundSource) (shown : Option (List Place)) (at_root : ℕ) (next later : Option ℤ) (found : Kept) (has : HasStreamed old mid q table shown at_root next found) where
     -- a leaf that isn't read
     pub leaf_unread : {X : Type 0} (view : X → Rows) (fault : Fault) (result : Result X Fault) → HoldRows → IsErrAnd result (λ e. e ≡ fault)
         → (IsTrue (tells (below mid)) → GivesShown (pages mid) (limits (below mid)).page at_root shown table.shape.own next later (Err fault)) → IsTrue (tells (below old)) → Streams view (pages old) (limits (below old)).page q table shown result
@@ -99,8 +89,8 @@ module _ {P K : Type 0} (below : P → K) (tells : K → Bool) (limits : K → L
           ∙ sym (append_assoc has.before rows (map (as_shown shown table.shape.own) (rows_from later entries))))
 
       -- a leaf of which all is given
-      pub leaf_streamed : (new : P) (new_root : ℕ) (after : List Sortable) → new_root ≡ at_root → Stays below pages count failures {T = ⊤} (Ok tt) old new
-          → ((before : List Row) → given_of q before ≡ Ok found → given_of q (before ++ rows) ≡ Ok after) → HasStreamed old new q table shown new_root later after
+      pub leaf_streamed : (new : P) (new_root : ℕ) (after : Kept) → new_root ≡ at_root → Stays below pages count failures {T = ⊤} (Ok tt) old new
+          → ((before : List Row) → part_of q before ≡ Ok found → part_of q (before ++ rows) ≡ Ok after) → HasStreamed old new q table shown new_root later after
       leaf_streamed new new_root after same stays given = record {
         stays = stays;
         same_root = same ∙ has.same_root;
@@ -111,30 +101,30 @@ module _ {P K : Type 0} (below : P → K) (tells : K → Bool) (limits : K → L
 
       -- a leaf with a row of which something is refused
       pub leaf_refused : {X : Type 0} (view : X → Rows) (fault : Fault) (result : Result X Fault) → HoldRows → StayRefused → is_row_by_row q ≡ true → IsErrAnd result (λ e. e ≡ fault)
-          → ((before : List Row) → given_of q before ≡ Ok found → IsRefusedBy (given_of q (before ++ rows)) fault) → IsTrue (tells (below old)) → Streams view (pages old) (limits (below old)).page q table shown result
+          → ((before : List Row) → part_of q before ≡ Ok found → IsRefusedBy (part_of q (before ++ rows)) fault) → IsTrue (tells (below old)) → Streams view (pages old) (limits (below old)).page q table shown result
       leaf_refused view fault (Ok x) hold stay is same refused told them whole holds = absurd same
       leaf_refused view fault (Err e) hold stay is same refused told them whole holds = by (refused has.before has.given)
         where
           all : (has.before ++ rows) ++ map (as_shown shown table.shape.own) (rows_from later holds.entries) ≡ map (shown_source shown) them
           all = sym (more_are told holds.entries holds.used whole holds.tree) ∙ shown_of_rows shown table.shape.own holds.entries them (hold table.shape holds.entries them holds.each)
 
-          by : IsRefusedBy (given_of q (has.before ++ rows)) fault → IsOutside e ⊎ (rows_over q [] (beside_rows q.sources (map (shown_source shown) them ∷ [])) ≡ Err (refusal_of e))
+          by : IsRefusedBy (part_of q (has.before ++ rows)) fault → IsOutside e ⊎ (rows_over q [] (beside_rows q.sources (map (shown_source shown) them ∷ [])) ≡ Err (refusal_of e))
           by (inl memory) = inl (inl (same ∙ memory))
           by (inr why) =
               inr (ap (λ (l : List Row). rows_over q [] (beside_rows q.sources (l ∷ []))) (sym all)
-              ∙ (refused_over q ((has.before ++ rows) ++ map (as_shown shown table.shape.own) (rows_from later holds.entries)) (refusal_of fault) (stay q (has.before ++ rows) (map (as_shown shown table.shape.own) (rows_from later holds.entries)) (refusal_of fault) is why)
+              ∙ (stay q (has.before ++ rows) (map (as_shown shown table.shape.own) (rows_from later holds.entries)) (refusal_of fault) is why
               ∙ ap (λ (f : Fault). refusal (refusal_of f)) (sym same)))
             where
               refusal : Refusal → Answer Rows
               refusal r = Err r
 
   -- after the last leaf
-  pub all_streamed : {X : Type 0} (view : X → Rows) (old mid : P) (q : Reading) (table : BoundSource) (shown : Option (List Place)) (at_root : ℕ) (next : Option ℤ) (found : List Sortable) (result : Result X Fault)
-      → HasStreamed old mid q table shown at_root next found → next ≡ None → HoldRows
-      → ((sources : List (Condition × List Row)) → given_rows q sources ≡ Ok found → AnswersBy view (rows_over q [] sources) result) → IsTrue (tells (below old)) → Streams view (pages old) (limits (below old)).page q table shown result
-  all_streamed view old mid q table shown at_root next found result has none hold finish told rows whole holds =
+  pub all_streamed : {X : Type 0} (view : X → Rows) (old mid : P) (q : Reading) (table : BoundSource) (shown : Option (List Place)) (at_root : ℕ) (next : Option ℤ) (found : Kept) (result : Result X Fault)
+      → HasStreamed old mid q table shown at_root next found → next ≡ None → HoldRows → is_row_by_row q ≡ true
+      → ((rows : List Row) → is_row_by_row q ≡ true → part_of q rows ≡ Ok found → AnswersBy view (rows_over q [] (beside_rows q.sources (rows ∷ []))) result) → IsTrue (tells (below old)) → Streams view (pages old) (limits (below old)).page q table shown result
+  all_streamed view old mid q table shown at_root next found result has none hold is finish told rows whole holds =
       answers view (rows_over q [] (beside_rows q.sources (map (shown_source shown) rows ∷ []))) result
-      (subst (λ (l : List Row). AnswersBy view (rows_over q [] (beside_rows q.sources (l ∷ []))) result) all (finish (beside_rows q.sources (has.before ∷ [])) has.given))
+      (subst (λ (l : List Row). AnswersBy view (rows_over q [] (beside_rows q.sources (l ∷ []))) result) all (finish has.before is has.given))
     where
       all : has.before ≡ map (shown_source shown) rows
       all =

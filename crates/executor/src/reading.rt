@@ -95,7 +95,7 @@ fn streamed_rows<P: Pages>(
     rows_are_given_in_parts();
     rows_are_held();
     let filter = Filter::new(alloc, &reading.filter)?;
-    let mut found = GivenRows::new(alloc);
+    let mut found = GivenRows::new(alloc, reading)?;
     let mut rows = Many::new(alloc);
     let mut batch = Batch::new(alloc);
     let mut cursor = Cursor::new(table.root);

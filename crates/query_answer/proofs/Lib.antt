@@ -14,6 +14,7 @@ pub mod Misses
 pub mod Needed
 pub mod Outer
 pub mod PartRows
+pub mod PartTotals
 pub mod Places
 pub mod PlacesOfRows
 pub mod Quiet

@@ -1,23 +1,27 @@
--- What is given of parts of an only source's rows.
-use Rattle.std.proofs.Common.{◌≡◌, inl, inr, refl, sym, ap, subst, ◌∙◌, ℕ, ◌+◌, ◌<◌, Bool, true, false, not, ◌&&◌, ◌||◌, List, [], ◌∷◌, ◌++◌, length, map, drop, slice_index_or, Ok, Err}
+-- What is kept of parts of an only source's rows.
+use Rattle.std.proofs.Common.{◌≡◌, inl, inr, refl, sym, ap, subst, ◌∙◌, ℕ, zero, suc, ◌+◌, ◌<◌, ◌≤◌, arith, Bool, true, false, not, ◌&&◌, ◌||◌, List, [], ◌∷◌, ◌++◌, length, map, drop, slice_index_or, Ok, Err}
 use Rattle.std.specs.Prelude.{IfErr, Result, if◌then◌else◌}
 use Rattle.std.proofs.lemmas.Bool.{false≢true}
-use Rattle.std.proofs.lemmas.List.{at_drop_more, map-append, append-nil}
+use Rattle.std.proofs.lemmas.List.{at_drop_more, append-nil}
 use Rattle.sqlval.specs.Faults.{IsNotDiskFault}
-use Rattle.sqlval.specs.Flow.{Flow, Finished, Next, Refused, followed_by, collected}
-use Rattle.sqlval.specs.Refusals.{Answer, ◌then◌}
+use Rattle.sqlval.specs.Flow.{Flow, Finished, Next, Refused, followed_by, collected, row_of}
+use Rattle.sqlval.specs.Refusals.{Answer, Refusal, ◌then◌, refusal_of}
 use Rattle.sqlval.specs.declared.fault.Fault.{Fault}
+use Rattle.sqlval.specs.declared.value.Value.{Value}
 use Rattle.query_terms.specs.Outcome.{AnswersBy, IsRefusedBy}
 use Rattle.query_terms.specs.Rows.{picked_rows}
 use Rattle.query_terms.specs.Values.{Row}
-use Rattle.query_names.specs.Readings.{Sortable, combined, nulls}
+use Rattle.query_filter.specs.Passing.{passing}
+use Rattle.query_names.specs.Readings.{Sortable, combined, cut, env_of, in_order, nulls, once, rows_over}
 use Rattle.query_names.specs.declared.reading.Condition.{Condition}
 use Rattle.query_names.specs.declared.reading.Reading.{Reading}
-use Rattle.query_answer.specs.Nesting.{Found, Named, all_found, all_kept, at_leaf, beside_rows, found_of, given, is_left, joins_by, nest_from, onto, shown, stepped, tried}
-use Rattle.query_answer.specs.Parts.{GiveNone, StayRefused, given_of, is_alone, is_row_by_row, of_row, of_rows}
-use Rattle.query_answer.specs.declared.results.FoundRow.{FoundRow}
+use Rattle.query_totals.specs.Totals.{tallies_over}
+use Rattle.query_answer.specs.Answers.{given_from}
+use Rattle.query_answer.specs.Groups.{of_groups}
+use Rattle.query_answer.specs.Nesting.{Found, Named, all_kept, at_leaf, beside_rows, given, is_left, joins_by, kept_if, kept_row, nest_from, onto, stepped, to_group, tried}
+use Rattle.query_answer.specs.Parts.{Kept, StayRefused, is_alone, is_of_totals, is_row_by_row, kept_of, of_row, of_rows, part_of}
 use Rattle.query_answer.proofs.Flows.{followed_nothing, followed_twice, kept_rows}
-use Rattle.query_answer.proofs.Given.{each_to, given_alone, given_refused, kept_alone, one_by_one}
+use Rattle.query_answer.proofs.Given.{given_alone, given_grouped, given_refused, kept_alone, kept_from, kept_grouped, one_by_one, with_keys}
 use Rattle.query_answer.proofs.Levels.{behind_found, refused_found, row_within}
 use Rattle.query_answer.proofs.Quiet.{combined_runs, refused_quietly}
 
@@ -40,11 +44,15 @@ alone_is [] e = absurd (false≢true e)
 alone_is (s ∷ []) e = (s, refl, not_so (is_left s.1) e)
 alone_is (s ∷ t ∷ ss) e = absurd (false≢true e)
 
-pub single : (q : Reading) → is_row_by_row q ≡ true → q.is_grouped ≡ false
-single q e = not_so q.is_grouped (first_of (not q.is_grouped) (is_alone q.sources) e)
+other_of : (a b : Bool) → a ≡ false → (a || b) ≡ true → b ≡ true
+other_of false b isnt e = e
+other_of true b isnt e = absurd (false≢true (sym isnt))
+
+pub of_totals : (q : Reading) → is_row_by_row q ≡ true → q.is_grouped ≡ true → is_of_totals q ≡ true
+of_totals q e g = other_of (not q.is_grouped) (is_of_totals q) (ap not g) (first_of (not q.is_grouped || is_of_totals q) (is_alone q.sources) e)
 
 pub alone : (q : Reading) → is_row_by_row q ≡ true → (s : Named) × (q.sources ≡ s ∷ []) × (is_left s.1 ≡ false)
-alone q e = alone_is q.sources (second_of (not q.is_grouped) (is_alone q.sources) e)
+alone q e = alone_is q.sources (second_of (not q.is_grouped || is_of_totals q) (is_alone q.sources) e)
 
 -- ---- one row
 
@@ -95,131 +103,186 @@ alone_tried q c f (r ∷ rs) e = by (λ g. alone_tried q c g rs e) (joins_by c (
     by rest (Ok false) = rest (f || false)
     by rest (Err x) = refl
 
-kept_of_rows : (q : Reading) (s : Named) (rows : List Row) → q.sources ≡ s ∷ [] → is_left s.1 ≡ false → all_kept q (beside_rows q.sources (rows ∷ [])) ≡ collected (of_rows q s.1 rows)
-kept_of_rows q s rows same e =
+pub rows_kept : (q : Reading) (s : Named) (rows : List Row) → q.sources ≡ s ∷ [] → is_left s.1 ≡ false → all_kept q (beside_rows q.sources (rows ∷ [])) ≡ collected (of_rows q s.1 rows)
+rows_kept q s rows same e =
     ap collected (kept_rows q (beside_rows q.sources (rows ∷ [])))
     ∙ (ap (λ (ss : List Named). collected (nest_from (at_leaf q) (beside_rows ss (rows ∷ [])) [])) same
     ∙ ap collected (alone_tried q s.1 false rows e))
 
--- ---- what is seen of what is kept
+-- ---- what is kept of a list
 
-abbrev first : Found → Sortable
-first f = f.0
+abbrev pub all_of : Reading → Answer (List Found) → Answer Kept
+all_of q a = a then λ all. Ok (kept_of q all)
 
-abbrev seen : Answer (List Found) → Answer (List Sortable)
-seen a = a then λ fs. Ok (map first fs)
+abbrev kept_if_grouped : Reading → List Found → Bool → Kept
+kept_if_grouped q found b = if b then ([], tallies_over (map (λ f. f.1) found) q.results) else (map (λ f. f.0) found, [])
 
-seen_again : (a : Answer (List Sortable)) → a ≡ seen (a then λ ys. Ok (map given ys))
-seen_again (Err r) = refl
-seen_again (Ok ys) = ap done (each_same ys)
+pub kept_totals : (q : Reading) (found : List Found) → q.is_grouped ≡ true → kept_of q found ≡ ([], tallies_over (map (λ f. f.1) found) q.results)
+kept_totals q found g = ap (kept_if_grouped q found) g
+
+pub kept_each : (q : Reading) (found : List Found) → q.is_grouped ≡ false → kept_of q found ≡ (map (λ f. f.0) found, [])
+kept_each q found g = ap (kept_if_grouped q found) g
+
+-- an answer of which something is kept
+was_kept : (q : Reading) (a : Answer (List Found)) (kept : Kept) → all_of q a ≡ Ok kept → (found : List Found) × (a ≡ Ok found) × (kept_of q found ≡ kept)
+was_kept q (Ok found) kept e = (found, refl, cc)
+was_kept q (Err r) kept e = absurd cc
+
+was_refused : (q : Reading) (a : Answer (List Found)) (r : Refusal) → all_of q a ≡ Err r → a ≡ Err r
+was_refused q (Ok found) r e = absurd cc
+was_refused q (Err x) r e = ap again e
   where
-    done : List Sortable → Answer (List Sortable)
-    done xs = Ok xs
+    again : Answer Kept → Answer (List Found)
+    again (Ok kept) = Ok []
+    again (Err r) = Err r
 
-    each_same : (ys : List Sortable) → ys ≡ map first (map given ys)
-    each_same [] = refl
-    each_same (y ∷ ys) = ap (λ (l : List Sortable). y ∷ l) (each_same ys)
+refused_of : (q : Reading) (a : Answer (List Found)) (f : Fault) → IsRefusedBy (all_of q a) f → IsRefusedBy a f
+refused_of q a f (inl m) = inl m
+refused_of q a f (inr e) = inr (was_refused q a (refusal_of f) e)
 
-given_is : (q : Reading) (s : Named) (rows : List Row) → q.is_grouped ≡ false → q.sources ≡ s ∷ [] → is_left s.1 ≡ false → given_of q rows ≡ seen (collected (of_rows q s.1 rows))
-given_is q s rows single same e =
-    let sources = beside_rows q.sources (rows ∷ []) in
-    given_alone q [] (combined sources []) single
-    ∙ (seen_again (one_by_one q (combined sources [])) ∙ ap seen (sym (kept_alone q (combined sources []) single) ∙ kept_of_rows q s rows same e))
+of_refused : (q : Reading) (a : Answer (List Found)) (f : Fault) → IsRefusedBy a f → IsRefusedBy (all_of q a) f
+of_refused q a f (inl m) = inl m
+of_refused q a f (inr e) = inr (ap (all_of q) e)
+
+part_is : (q : Reading) (s : Named) (rows : List Row) → q.sources ≡ s ∷ [] → is_left s.1 ≡ false → part_of q rows ≡ all_of q (collected (of_rows q s.1 rows))
+part_is q s rows same e = ap (all_of q) (rows_kept q s rows same e)
+
+pub nothing_kept : (q : Reading) → is_row_by_row q ≡ true → part_of q [] ≡ Ok (kept_of q [])
+nothing_kept q e = (let a = alone q e in part_is q a.0 [] a.1 a.2)
+
+-- ---- row after row of what is kept
+
+-- (`q` says what is kept, and `p` is the same query with its WHERE prepared)
+module _ (p q : Reading) (c : Condition) (ss : List (List Row)) (rows : List Row) (i : ℕ) (xs : List Found) (total : Answer (List Found)) (same : ss ≡ rows ∷ []) (lt : i < length rows)
+    (so_far : onto xs (of_rows p c (drop i rows)) ≡ total) where
+  pub rows_go_on : (new : Kept) → all_of q (onto xs (of_row p c (picked_rows ss (i ∷ [])))) ≡ Ok new → (ys : List Found) × (new ≡ kept_of q ys) × (onto ys (of_rows p c (drop (i + 1) rows)) ≡ total)
+  rows_go_on new h =
+      let was = was_kept q (onto xs (of_row p c (picked_rows ss (i ∷ [])))) new h in
+      (was.0, sym was.2, row_goes_on p c ss rows i xs total same lt so_far was.0 was.1)
+
+  pub rows_stop : (fault : Fault) → IsRefusedBy (all_of q (onto xs (of_row p c (picked_rows ss (i ∷ []))))) fault → IsRefusedBy (all_of q total) fault
+  rows_stop fault h =
+      of_refused q total fault (row_stops p c ss rows i xs total same lt so_far fault (refused_of q (onto xs (of_row p c (picked_rows ss (i ∷ [])))) fault h))
+
+pub none_left : (rows : List Row) (i : ℕ) → length rows ≤ i → drop i rows ≡ []
+none_left [] zero h = refl
+none_left [] (suc i) h = refl
+none_left (r ∷ rs) zero h = absurd (omega (arith, h))
+none_left (r ∷ rs) (suc i) h = none_left rs i (omega (arith, h))
+
+pub rows_done : (q : Reading) (xs : List Found) (total : Answer (List Found)) (kept : Kept) → kept ≡ kept_of q xs → onto xs Finished ≡ total → all_of q total ≡ Ok kept
+rows_done q xs total kept is left =
+    ap (all_of q) (sym left) ∙ (ap (all_of q) (nothing_more xs) ∙ (let done : Kept → Answer Kept = λ k. Ok k in ap done (sym is)))
+
+-- ---- one row
+
+module _ (q : Reading) (c : Condition) (rows : List Row) (before : List Found) where
+  -- one that WHERE keeps
+  pub one_kept : joins_by c rows ≡ Ok true → passing q.filter (env_of rows) ≡ Ok true
+      → all_of q (onto before (of_row q c rows)) ≡ (kept_row q rows then λ f. Ok (kept_of q (before ++ f ∷ [])))
+  one_kept joins passes = (λ i. all_of q (onto before (stepped (joins i) (kept_if q rows (passes i)) (λ joins. Finished)))) ∙ by (kept_row q rows)
+    where
+      by : (a : Answer Found) → all_of q (onto before (followed_by (row_of a) Finished)) ≡ (a then λ f. let k : Answer Kept = Ok (kept_of q (before ++ f ∷ [])) in k)
+      by (Ok f) = refl
+      by (Err r) = refl
+
+  -- one that it doesn't keep
+  pub one_left : joins_by c rows ≡ Ok true → passing q.filter (env_of rows) ≡ Ok false → all_of q (onto before (of_row q c rows)) ≡ Ok (kept_of q before)
+  one_left joins passes =
+      (λ i. all_of q (onto before (stepped (joins i) (kept_if q rows (passes i)) (λ joins. Finished)))) ∙ ap (all_of q) (nothing_more before)
+
+  pub one_apart : joins_by c rows ≡ Ok false → all_of q (onto before (of_row q c rows)) ≡ Ok (kept_of q before)
+  one_apart joins = ap (all_of q) (passed_over (joins_by c rows) (at_leaf q rows) before joins)
+
+  -- one of which a condition is refused
+  pub one_unjoined : (f : Fault) → IsRefusedBy (joins_by c rows) f → IsRefusedBy (all_of q (onto before (of_row q c rows))) f
+  one_unjoined f h = of_refused q (onto before (of_row q c rows)) f (condition_refused (joins_by c rows) (at_leaf q rows) before f h)
+
+  pub one_unfiltered : (f : Fault) → joins_by c rows ≡ Ok true → IsRefusedBy (passing q.filter (env_of rows)) f → IsRefusedBy (all_of q (onto before (of_row q c rows))) f
+  one_unfiltered f joins (inl m) = inl m
+  one_unfiltered f joins (inr e) = inr (λ i. all_of q (onto before (stepped (joins i) (kept_if q rows (e i)) (λ joins. Finished))))
 
 -- ---- parts
-
-abbrev both : Answer (List Sortable) → Answer (List Sortable) → Answer (List Sortable)
-both a b = a then λ xs. b then λ ys. Ok (xs ++ ys)
-
-abbrev after : Sortable → Answer (List Sortable) → Answer (List Sortable)
-after x a = a then λ xs. Ok (x ∷ xs)
-
-seen_after : (x : Found) (a : Answer (List Found)) → seen (a then λ xs. Ok (x ∷ xs)) ≡ after x.0 (seen a)
-seen_after x (Ok xs) = refl
-seen_after x (Err r) = refl
-
-after_both : (x : Sortable) (a b : Answer (List Sortable)) → both (after x a) b ≡ after x (both a b)
-after_both x (Err r) b = refl
-after_both x (Ok xs) (Err r) = refl
-after_both x (Ok xs) (Ok ys) = refl
-
-none_before : (a : Answer (List Sortable)) → a ≡ both (Ok []) a
-none_before (Ok xs) = refl
-none_before (Err r) = refl
-
-seen_behind : (f g : Flow Found) → seen (collected (followed_by f g)) ≡ both (seen (collected f)) (seen (collected g))
-seen_behind Finished g = none_before (seen (collected g))
-seen_behind (Refused r) g = refl
-seen_behind (Next x f) g =
-    seen_after x (collected (followed_by f g))
-    ∙ (ap (after x.0) (seen_behind f g)
-    ∙ (sym (after_both x.0 (seen (collected f)) (seen (collected g))) ∙ ap (λ (a : Answer (List Sortable)). both a (seen (collected g))) (sym (seen_after x (collected f)))))
 
 rows_behind : (q : Reading) (c : Condition) (rows more : List Row) → of_rows q c (rows ++ more) ≡ followed_by (of_rows q c rows) (of_rows q c more)
 rows_behind q c [] more = refl
 rows_behind q c (r ∷ rs) more =
     ap (followed_by (of_row q c (r ∷ []))) (rows_behind q c rs more) ∙ sym (followed_twice (of_row q c (r ∷ [])) (of_rows q c rs) (of_rows q c more))
 
-given_both : (q : Reading) (rows more : List Row) → is_row_by_row q ≡ true → given_of q (rows ++ more) ≡ both (given_of q rows) (given_of q more)
-given_both q rows more e =
-    let a = alone q e in
-    let g = single q e in
-    given_is q a.0 (rows ++ more) g a.1 a.2
-    ∙ (ap (λ (f : Flow Found). seen (collected f)) (rows_behind q a.0.1 rows more)
-    ∙ (seen_behind (of_rows q a.0.1 rows) (of_rows q a.0.1 more)
-    ∙ (λ i. both (sym (given_is q a.0 rows g a.1 a.2) i) (sym (given_is q a.0 more g a.1 a.2) i))))
+-- a list that is there, and what a flow gives after it
+none_onto : {A : Type 0} (a : Answer (List A)) → a ≡ (a then λ ys. Ok ([] ++ ys))
+none_onto (Ok ys) = refl
+none_onto (Err r) = refl
 
-pub give_none : GiveNone
-give_none q e = (let a = alone q e in given_is q a.0 [] (single q e) a.1 a.2)
+behind : {A : Type 0} (f g : Flow A) (xs : List A) → collected f ≡ Ok xs → collected (followed_by f g) ≡ onto xs g
+behind f g xs e = none_onto (collected (followed_by f g)) ∙ behind_found [] xs f g (sym (none_onto (collected f)) ∙ e)
 
-pub stay_refused : StayRefused
-stay_refused q rows more r e refused = given_both q rows more e ∙ ap (λ (a : Answer (List Sortable)). both a (given_of q more)) refused
+refused_behind : {A : Type 0} (f g : Flow A) (r : Refusal) → collected f ≡ Err r → collected (followed_by f g) ≡ Err r
+refused_behind Finished g r e = absurd cc
+refused_behind (Refused x) g r e = e
+refused_behind {A} (Next x f) g r e = ap (λ (a : Answer (List A)). a then λ xs. Ok (x ∷ xs)) (refused_behind f g r (tail (collected f) e))
+  where
+    tail : (a : Answer (List A)) → (a then λ xs. let l : Answer (List A) = Ok (x ∷ xs) in l) ≡ Err r → a ≡ Err r
+    tail (Ok xs) h = absurd cc
+    tail (Err y) h = h
 
 -- ---- what a part gives after those before it
 
-seen_onto : (xs : List Found) (a : Answer (List Found)) → seen (a then λ ys. Ok (xs ++ ys)) ≡ both (Ok (map first xs)) (seen a)
-seen_onto xs (Err r) = refl
-seen_onto xs (Ok ys) = (let done : List Sortable → Answer (List Sortable) = λ l. Ok l in ap done (map-append first xs ys))
+module _ (q : Reading) (s : Named) (rows before : List Row) (e : is_row_by_row q ≡ true) (same : q.sources ≡ s ∷ []) (left : is_left s.1 ≡ false) where
+  more_is : (found : List Found) → collected (of_rows q s.1 before) ≡ Ok found → all_of q (onto found (of_rows q s.1 rows)) ≡ part_of q (before ++ rows)
+  more_is found h =
+      ap (all_of q) (sym (behind (of_rows q s.1 before) (of_rows q s.1 rows) found h) ∙ ap collected (sym (rows_behind q s.1 before rows))) ∙ sym (part_is q s (before ++ rows) same left)
 
-found_seen : (ss : List (List Row)) (found : List FoundRow) → map first (all_found ss found) ≡ map shown found
-found_seen ss found = each_to first (found_of ss) shown (λ x. refl) found
+  pub part_given : {T : Type 0} (result : Result T Fault) (old new : Kept) → part_of q before ≡ Ok old
+      → ((found : List Found) → old ≡ kept_of q found → AnswersBy (λ u. new) (all_of q (onto found (of_rows q s.1 rows))) result) → AnswersBy (λ u. new) (part_of q (before ++ rows)) result
+  part_given result old new had given =
+      let was = was_kept q (collected (of_rows q s.1 before)) old (sym (part_is q s before same left) ∙ had) in
+      subst (λ (a : Answer Kept). AnswersBy (λ u. new) a result) (more_is was.0 was.1) (given was.0 (sym was.2))
 
-part_is : (q : Reading) (s : Named) (ss : List (List Row)) (before rows : List Row) (found : List FoundRow) → is_row_by_row q ≡ true → q.sources ≡ s ∷ [] → is_left s.1 ≡ false → given_of q before ≡ Ok (map shown found)
-    → seen (onto (all_found ss found) (of_rows q s.1 rows)) ≡ given_of q (before ++ rows)
-part_is q s ss before rows found e same left had =
-    let done : List Sortable → Answer (List Sortable) = λ l. Ok l in
-    seen_onto (all_found ss found) (collected (of_rows q s.1 rows))
-    ∙ ((λ i. both (done (found_seen ss found i)) (sym (given_is q s rows (single q e) same left) i))
-    ∙ (ap (λ (a : Answer (List Sortable)). both a (given_of q rows)) (sym had) ∙ sym (given_both q before rows e)))
+  pub part_quiet : (f : Fault) (new : Kept) → IsRefusedBy (part_of q (before ++ rows)) f → IsNotDiskFault f
+  part_quiet f new h =
+      let sources = beside_rows q.sources ((before ++ rows) ∷ []) in
+      refused_quietly q [] (combined sources []) f (combined_runs sources []) (given_refused q [] (combined sources []) f (refused_of q (all_kept q sources) f h))
 
-module _ (q : Reading) (s : Named) (ss : List (List Row)) (rows : List Row) (old new : List FoundRow) (e : is_row_by_row q ≡ true) (same : q.sources ≡ s ∷ []) (left : is_left s.1 ≡ false) where
-  pub part_given : {T : Type 0} (result : Result T Fault) → AnswersBy (λ u. all_found ss new) (onto (all_found ss old) (of_rows q s.1 rows)) result
-      → (before : List Row) → given_of q before ≡ Ok (map shown old) → AnswersBy (λ u. map shown new) (given_of q (before ++ rows)) result
-  part_given (Ok u) answers before had =
-      (let done : List Sortable → Answer (List Sortable) = λ l. Ok l in
-      sym (part_is q s ss before rows old e same left had) ∙ (ap seen answers ∙ ap done (found_seen ss new)))
-  part_given (Err f) (inl m) before had = inl m
-  part_given (Err f) (inr is) before had = inr (sym (part_is q s ss before rows old e same left had) ∙ ap seen is)
+  pub part_calm : {T : Type 0} (result : Result T Fault) (new : Kept) → AnswersBy (λ u. new) (part_of q (before ++ rows)) result → IfErr result IsNotDiskFault
+  part_calm (Ok u) new answers = tt
+  part_calm (Err f) new answers = part_quiet f new answers
 
-  refused_alone : (f : Fault) (a : Answer (List Found)) (xs : List Found) → IsRefusedBy (a then λ ys. (let l : Answer (List Found) = Ok (xs ++ ys) in l)) f → IsRefusedBy a f
-  refused_alone f a xs (inl m) = inl m
-  refused_alone f (Ok ys) xs (inr is) = absurd cc
-  refused_alone f (Err r) xs (inr is) = inr is
+-- in the words of the loop's call
+pub part_answers : {T : Type 0} (q : Reading) (s : Named) (new : Kept) (at p : Reading) (c : Condition) (them rows : List Row) (found : List Found) (result : Result T Fault) → at ≡ q → p ≡ q → c ≡ s.1 → them ≡ rows
+    → AnswersBy (λ u. new) (all_of at (onto found (of_rows p c them))) result → AnswersBy (λ u. new) (all_of q (onto found (of_rows q s.1 rows))) result
+part_answers q s new at p c them rows found result at_is p_is c_is them_is answers =
+    subst (λ (a : Answer Kept). AnswersBy (λ u. new) a result) (λ i. all_of (at_is i) (onto found (of_rows (p_is i) (c_is i) (them_is i)))) answers
 
-  pub part_quiet : (f : Fault) → IsRefusedBy (onto (all_found ss old) (of_rows q s.1 rows)) f → IsNotDiskFault f
-  part_quiet f h =
-      let sources = beside_rows q.sources (rows ∷ []) in
-      refused_quietly q [] (combined sources []) f (combined_runs sources [])
-      (given_refused q [] (combined sources []) f
-      (subst (λ (a : Answer (List Found)). IsRefusedBy a f) (sym (kept_of_rows q s rows same left)) (refused_alone f (collected (of_rows q s.1 rows)) (all_found ss old) h)))
+-- ---- what is refused stays so
 
-  pub part_calm : {T : Type 0} (result : Result T Fault) → AnswersBy (λ u. all_found ss new) (onto (all_found ss old) (of_rows q s.1 rows)) result → IfErr result IsNotDiskFault
-  part_calm (Ok u) answers = tt
-  part_calm (Err f) answers = part_quiet f answers
+refused_before : {A B : Type 0} (h : A → B) (a : Answer (List A)) (r : Refusal) → (a then λ ys. let l : Answer (List B) = Ok (map h ys) in l) ≡ Err r → a ≡ Err r
+refused_before h (Ok ys) r e = absurd cc
+refused_before {A} {B} h (Err x) r e = ap again e
+  where
+    again : Answer (List B) → Answer (List A)
+    again (Ok bs) = Ok []
+    again (Err r) = Err r
 
-  -- in the words of the loop's call
-  pub part_answers : {T : Type 0} (result : Result T Fault) (at : Reading) (c : Condition) (cs : List Named) (them : List Row) → at ≡ q → ((d : Named) → c ≡ (slice_index_or cs 0 d).1) → cs ≡ q.sources → them ≡ rows
-      → AnswersBy (λ u. all_found ss new) (onto (all_found ss old) (of_rows at c them)) result → AnswersBy (λ u. all_found ss new) (onto (all_found ss old) (of_rows q s.1 rows)) result
-  part_answers result at c cs them at_is c_is cs_is them_is answers =
-      let here : c ≡ s.1 = c_is s ∙ ap (λ (l : List Named). (slice_index_or l 0 s).1) (cs_is ∙ same) in
-      subst (λ (a : Answer (List Found)). AnswersBy (λ u. all_found ss new) a result) (λ i. onto (all_found ss old) (of_rows (at_is i) (here i) (them_is i))) answers
+unkept : (q : Reading) (flow : Flow (List Row)) (r : Refusal) → kept_from q flow ≡ Err r → given_from q [] flow ≡ Err r
+unkept q flow r h = by q.is_grouped refl
+  where
+    by : (b : Bool) → q.is_grouped ≡ b → given_from q [] flow ≡ Err r
+    by false g = given_alone q [] flow g ∙ refused_before given (one_by_one q flow) r (sym (kept_alone q flow g) ∙ h)
+    by true g = given_grouped q [] flow g ∙ ap (λ a. a then of_groups q []) (refused_before to_group (with_keys q flow) r (sym (kept_grouped q flow g) ∙ h))
+
+refused_over : (q : Reading) (sources : List (Condition × List Row)) (r : Refusal) → given_from q [] (combined sources []) ≡ Err r → rows_over q [] sources ≡ Err r
+refused_over q sources r e = ap (λ (a : Answer (List Sortable)). a then λ found. finished (map (λ s. s.0) (cut q (in_order q (once q found))))) e
+  where
+    finished : List (List Value) → Answer (List (List Value))
+    finished rows = Ok rows
+
+pub stay_refused : StayRefused
+stay_refused q rows more r e refused =
+    let a = alone q e in
+    let sources = beside_rows q.sources ((rows ++ more) ∷ []) in
+    refused_over q sources r
+    (unkept q (combined sources []) r
+    (rows_kept q a.0 (rows ++ more) a.1 a.2
+    ∙ (ap collected (rows_behind q a.0.1 rows more)
+    ∙ refused_behind (of_rows q a.0.1 rows) (of_rows q a.0.1 more) r (was_refused q (collected (of_rows q a.0.1 rows)) r (sym (part_is q a.0 rows a.1 a.2) ∙ refused)))))

@@ -3,20 +3,17 @@ use Rattle.std.proofs.Common.{◌≡◌, refl, sym, ap, ◌∙◌, Bool, false, 
 use Rattle.std.specs.Prelude.{if◌then◌else◌, IfOk, IfSome, Result}
 use Rattle.std.specs.Global.{Vec}
 use Rattle.sqlval.specs.declared.fault.Fault.{Fault}
-use Rattle.std.specs.declared.cmp.Ordering.{Ordering}
 use Rattle.std.specs.declared.cmp.Ordering.TheVariants.{Equal}
-use Rattle.sqlval.specs.Flow.{Flow, Finished, Next, flow_of, followed_by, for_each, computed, collected, row_of}
+use Rattle.sqlval.specs.Flow.{Finished, Next, flow_of, followed_by, for_each, computed, collected, row_of}
 use Rattle.sqlval.specs.Lists.{keys_cmp, placed, sorted}
 use Rattle.sqlval.specs.Refusals.{Answer, ◌then◌}
-use Rattle.sqlval.specs.declared.value.Value.{Value}
 use Rattle.query_terms.specs.Terms.{Term, collation}
-use Rattle.query_terms.specs.Values.{Row, Environment, at_row}
+use Rattle.query_terms.specs.Values.{Row, at_row}
 use Rattle.query_terms.specs.declared.tree.Place.{Place}
-use Rattle.query_names.specs.Readings.{Sortable, combined, cut, environments, env_of, filtered, in_order, once, rows_over, sortable, values}
-use Rattle.query_names.specs.declared.reading.Condition.{Condition}
+use Rattle.query_names.specs.Readings.{Sortable, combined, cut, environments, env_of, filtered, in_order, once, sortable, values}
 use Rattle.query_names.specs.declared.reading.Condition.TheVariants.{Always}
 use Rattle.query_names.specs.declared.reading.Reading.{Reading}
-use Rattle.query_answer.specs.Nesting.{Named, beside_rows}
+use Rattle.query_answer.specs.Nesting.{beside_rows}
 use Rattle.query_answer.specs.Shown.{AnswersAll, ShowsPlaces, shown_of}
 
 -- rows of which none is before another stay as they stand

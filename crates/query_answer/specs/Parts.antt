@@ -1,26 +1,40 @@
 -- A query whose only source's rows come part after part.
-use Rattle.std.specs.Prelude.{◌≡◌, Bool, true, false, not, ◌&&◌, List, [], ◌∷◌, ◌++◌, Ok, Err}
+use Rattle.std.specs.Prelude.{◌≡◌, Bool, true, false, not, ◌&&◌, ◌||◌, if◌then◌else◌, List, [], ◌∷◌, ◌++◌, length, map, ◌==◌, Ok, Err}
+use Rattle.std.specs.List.{list_all}
 use Rattle.sqlval.specs.Flow.{Flow, Finished, flow_of, for_each}
-use Rattle.sqlval.specs.Refusals.{Answer, Refusal}
+use Rattle.sqlval.specs.Refusals.{Answer, Refusal, ◌then◌}
 use Rattle.query_terms.specs.Values.{Row}
-use Rattle.query_names.specs.Readings.{Sortable}
+use Rattle.query_names.specs.Readings.{Sortable, rows_over}
 use Rattle.query_names.specs.declared.reading.Condition.{Condition}
 use Rattle.query_names.specs.declared.reading.Reading.{Reading}
-use Rattle.query_answer.specs.Answers.{given_rows}
-use Rattle.query_answer.specs.Nesting.{Found, Named, at_leaf, beside_rows, is_left, joins_by, stepped}
+use Rattle.query_totals.specs.Totals.{is_total, tallies_over}
+use Rattle.query_totals.specs.declared.tally.Tally.{Tally}
+use Rattle.query_answer.specs.Nesting.{Found, Named, all_kept, at_leaf, beside_rows, is_left, joins_by, stepped}
 
 -- whether a source stands alone, and no row of NULLs stands in for its rows
 abbrev pub is_alone : List Named → Bool
 is_alone (s ∷ []) = not (is_left s.1)
 is_alone _ = false
 
--- whether a query gives what it gives row by row: it makes no groups, and has one source
-abbrev pub is_row_by_row : Reading → Bool
-is_row_by_row q = not q.is_grouped && is_alone q.sources
+-- whether a query gives nothing but aggregates of all its rows
+abbrev pub is_of_totals : Reading → Bool
+is_of_totals q = (length q.keys == 0) && ((length q.order == 0) && list_all is_total q.results)
 
--- what a query gives of these rows of its only source, before DISTINCT, ORDER BY and LIMIT
-abbrev pub given_of : Reading → List Row → Answer (List Sortable)
-given_of q rows = given_rows q (beside_rows q.sources (rows ∷ []))
+-- whether a query takes its rows one by one: it has one source, and makes no groups, or gives nothing but aggregates of all rows
+abbrev pub is_row_by_row : Reading → Bool
+is_row_by_row q = (not q.is_grouped || is_of_totals q) && is_alone q.sources
+
+-- What a query has kept of its rows: what it gives of each, and what it keeps of each aggregate.
+abbrev pub Kept : Type 0
+Kept = List Sortable × List Tally
+
+-- what is kept of these rows: of a query that makes no groups what it gives of each, of one that gives aggregates of all rows a tally of each aggregate
+abbrev pub kept_of : Reading → List Found → Kept
+kept_of q found = if q.is_grouped then ([], tallies_over (map (λ f. f.1) found) q.results) else (map (λ f. f.0) found, [])
+
+-- what is kept of these rows of the only source
+abbrev pub part_of : Reading → List Row → Answer Kept
+part_of q rows = all_kept q (beside_rows q.sources (rows ∷ [])) then λ found. Ok (kept_of q found)
 
 -- what is kept of one row, where it joins
 abbrev pub of_row : Reading → Condition → List Row → Flow Found
@@ -30,10 +44,7 @@ of_row q c rows = stepped (joins_by c rows) (at_leaf q rows) (λ joins. Finished
 abbrev pub of_rows : Reading → Condition → List Row → Flow Found
 of_rows q c rows = for_each (λ r. of_row q c (r ∷ [])) (flow_of rows)
 
--- of no rows such a query gives none
-abbrev pub GiveNone : Type 0
-GiveNone = (q : Reading) → is_row_by_row q ≡ true → given_of q [] ≡ Ok []
-
--- and what is refused of some rows is refused of these and more
+-- what is refused of some rows is refused of these and more
 abbrev pub StayRefused : Type 0
-StayRefused = (q : Reading) (rows more : List Row) (r : Refusal) → is_row_by_row q ≡ true → given_of q rows ≡ Err r → given_of q (rows ++ more) ≡ Err r
+StayRefused = (q : Reading) (rows more : List Row) (r : Refusal) → is_row_by_row q ≡ true → part_of q rows ≡ Err r
+    → rows_over q [] (beside_rows q.sources ((rows ++ more) ∷ [])) ≡ Err r

@@ -1,5 +1,5 @@
 -- Queries that show values of each row of a source, and do nothing else (SQL As Understood By SQLite, "SELECT").
-use Rattle.std.specs.Prelude.{◌≡◌, Bool, false, List, [], ◌∷◌, map, Option, Some, None, Ok}
+use Rattle.std.specs.Prelude.{◌≡◌, false, List, [], ◌∷◌, map, Some, None, Ok}
 use Rattle.sqlval.specs.declared.value.Value.{Value}
 use Rattle.query_terms.specs.Values.{Row, at_row}
 use Rattle.query_terms.specs.declared.tree.Place.{Place}

@@ -1,50 +1,60 @@
 //! What a query of one source gives of its rows, part after part.
 
-ghost use Rattle.std.specs.Prelude.{◌≡◌, ◌∷◌, [], ◌<◌, List, Ok, IfErr, length, map, true, ◌++◌};
+ghost use Rattle.std.specs.Prelude.{◌≡◌, ◌∷◌, ◌++◌, [], List, Ok, IfErr, true};
 ghost use Rattle.sqlval.specs.Faults.{IsNotDiskFault};
+ghost use Rattle.sqlval.specs.Refusals.{◌then◌};
 ghost use Rattle.query_terms.specs.Outcome.{AnswersBy};
 ghost use Rattle.query_terms.specs.Rows.{picked_rows};
 ghost use Rattle.query_terms.specs.Values.{Row};
-ghost use Rattle.query_answer.specs.Nesting.{all_found, filtered_by, onto, shown};
+ghost use Rattle.query_answer.specs.Nesting.{Found, filtered_by, kept_row, onto};
 ghost use Rattle.query_answer.specs.Parts as meant;
-ghost use Rattle.query_answer.specs.Parts.{GiveNone, StayRefused, given_of, of_row, of_rows};
+ghost use Rattle.query_answer.specs.Parts.{StayRefused, kept_of, of_row, of_rows, part_of};
 
 use crate::nesting::{Loops, condition_of, is_left, joins};
-use crate::results::{FoundRow, give};
+use crate::results::{FoundRow, found_row};
 use query_filter::Filter;
 use query_names::{Condition, Reading};
 use query_terms::SourceRow;
+use query_totals::{Tally, add_row, are_totals, no_rows};
 use sqlval::{Fault, Many, Misuse, Name, R};
 use std::alloc::Global;
 use std::array::from_ref;
 use std::marker::Model;
 
-/// What a query has given so far: contracts see its rows, each with what it is sorted by.
+/// What a query has kept of the rows so far: contracts see what it gives of each, with what that is sorted by, and what it keeps of each aggregate where
+/// it gives nothing but aggregates of all rows.
 #[derive(Drop)]
 pub struct GivenRows {
     pub(crate) rows: Vec<FoundRow>,
+    pub(crate) tallies: Vec<Tally>,
 }
 
 impl Model for GivenRows {
-    ghost use Rattle.std.specs.Prelude.{List, map};
-    ghost use Rattle.query_names.specs.Readings.{Sortable};
+    ghost use Rattle.std.specs.Prelude.{map};
     ghost use Rattle.query_answer.specs.Nesting.{shown};
+    ghost use Rattle.query_answer.specs.Parts.{Kept};
 
-    ghost Value = { List Sortable };
+    ghost Value = { Kept };
 
-    ghost view = { λ given. map shown given.rows.items };
+    ghost view = { λ given. (map shown given.rows.items, given.tallies.items) };
 }
 
 impl GivenRows {
-    ghost use Rattle.std.specs.Prelude.{◌≡◌, []};
+    ghost use Rattle.std.specs.Prelude.{◌≡◌, [], Ok, true};
+    ghost use Rattle.sqlval.specs.Faults.{IsOrMemory};
+    ghost use Rattle.query_answer.specs.Parts.{is_row_by_row, part_of};
 
-    /// No rows yet.
-    pub fn new(alloc: Global) -> GivenRows
-        ensures { result ≡ [] }
+    /// What a query has kept before the first row. (`Memory`.)
+    pub fn new(alloc: Global, reading: &Reading) -> R<GivenRows>
+        ensures { IsOrMemory (λ given. is_row_by_row reading.now ≡ true → part_of reading.now [] ≡ Ok given) result }
     {
-        GivenRows {
-            rows: Vec::new(alloc),
-        }
+        let rows = Vec::new(alloc);
+        let tallies = if reading.is_grouped {
+            no_rows(alloc, reading.results.as_slice())?
+        } else {
+            Vec::new(alloc)
+        };
+        Ok(GivenRows { rows, tallies })
     }
 }
 
@@ -58,46 +68,79 @@ fn is_alone(sources: &[(Name, Condition)]) -> bool
     }
 }
 
-/// Whether a query gives what it gives row by row: it makes no groups, and has one source.
+/// Whether a query that makes groups gives nothing but aggregates of all its rows.
+fn is_of_totals(reading: &Reading) -> bool
+    ensures { result ≡ meant.is_of_totals reading.now }
+{
+    reading.keys.len() == 0 && reading.order.len() == 0 && are_totals(reading.results.as_slice())
+}
+
+/// Whether a query takes its rows one by one: it has one source, and makes no groups, or gives nothing but aggregates of all rows.
 pub fn is_row_by_row(reading: &Reading) -> bool
     ensures { result ≡ meant.is_row_by_row reading.now }
 {
-    !reading.is_grouped && is_alone(reading.sources.as_slice())
+    (!reading.is_grouped || is_of_totals(reading)) && is_alone(reading.sources.as_slice())
 }
 
-/// Keeps what is given of the row at a place.
+/// Keeps a row that WHERE keeps: what is given of it, or its values in each aggregate.
+fn keep_row(alloc: Global, loops: Loops<'_>, picked: &[usize], found: &mut GivenRows) -> R<()>
+    requires { meant.is_row_by_row loops.reading.now ≡ true }
+    ensures { (before : List Found) → found.old ≡ kept_of loops.entry.reading.now before
+        → AnswersBy (λ u. found.new) (kept_row loops.entry.reading.now
+        (picked_rows loops.entry.sources.now picked.now) then λ f. Ok (kept_of loops.entry.reading.now (before ++ f ∷ []))) result }
+{
+    let env = loops.env(picked);
+    if loops.reading.is_grouped {
+        add_row(
+            alloc,
+            loops.reading.results.as_slice(),
+            env,
+            &mut found.tallies,
+        )
+    } else {
+        found.rows.push(found_row(alloc, loops.reading, env)?)?;
+        Ok(())
+    }
+}
+
+/// Keeps the row at a place, where it joins and WHERE keeps it.
 fn give_row(
     alloc: Global,
     loops: Loops<'_>,
     condition: &Condition,
     index: usize,
-    found: &mut Vec<FoundRow>,
+    found: &mut GivenRows,
 ) -> R<()>
-    ensures { AnswersBy (λ u. all_found loops.entry.sources.now found.new.items)
-        (onto (all_found loops.entry.sources.now found.old.items)
-        (of_row (filtered_by loops.entry.filter.now loops.entry.reading.now) condition.now
-        (picked_rows loops.entry.sources.now (index ∷ [])))) result }
+    requires { meant.is_row_by_row loops.reading.now ≡ true }
+    ensures { (before : List Found) → found.old ≡ kept_of loops.entry.reading.now before
+        → AnswersBy (λ u. found.new)
+        (onto before (of_row (filtered_by loops.entry.filter.now loops.entry.reading.now) condition.now
+        (picked_rows loops.entry.sources.now (index ∷ []))) then λ all. Ok (kept_of loops.entry.reading.now all)) result }
 {
     let picked = [index];
     if !joins(alloc, loops, picked.as_slice(), condition)? {
         return Ok(());
     }
-    give(alloc, loops, picked.as_slice(), found)
+    if loops.filter.passes(alloc, loops.env(picked.as_slice()))? {
+        keep_row(alloc, loops, picked.as_slice(), found)?;
+    }
+    Ok(())
 }
 
-/// Keeps what is given of each row.
+/// Keeps each of these rows.
 fn give_each(
     alloc: Global,
     loops: Loops<'_>,
     condition: &Condition,
     rows: &[SourceRow],
-    found: &mut Vec<FoundRow>,
+    found: &mut GivenRows,
 ) -> R<()>
-    requires { loops.sources.now ≡ rows.now ∷ [] }
-    ensures { AnswersBy (λ u. all_found loops.entry.sources.now found.new.items)
-        (onto (all_found loops.entry.sources.now found.old.items)
-        (of_rows (filtered_by loops.entry.filter.now loops.entry.reading.now) condition.now
-        rows.now)) result }
+    requires sources { loops.sources.now ≡ rows.now ∷ [] }
+    requires row_by_row { meant.is_row_by_row loops.reading.now ≡ true }
+    ensures { (before : List Found) → found.old ≡ kept_of loops.entry.reading.now before
+        → AnswersBy (λ u. found.new)
+        (onto before (of_rows (filtered_by loops.entry.filter.now loops.entry.reading.now) condition.now
+        rows.now) then λ all. Ok (kept_of loops.entry.reading.now all)) result }
 {
     'rows: for index in 0..rows.len() {
         give_row(alloc, loops, condition, index, found)?;
@@ -124,25 +167,26 @@ fn loops_over<'a>(
     }
 }
 
-/// Keeps what is given of these rows of the only source.
+/// Keeps these rows of the only source.
 fn give_part(
     alloc: Global,
     reading: &Reading,
     filter: &Filter<'_>,
     rows: &Many<SourceRow>,
-    found: &mut Vec<FoundRow>,
+    found: &mut GivenRows,
 ) -> R<()>
     requires { meant.is_row_by_row reading.now ≡ true }
-    ensures given { filter.now ≡ reading.now.filter → (before : List Row) → given_of reading.now before ≡ Ok (map shown found.old.items)
-        → AnswersBy (λ u. map shown found.new.items) (given_of reading.now (before ++ rows.now)) result }
-    ensures not_disk { IfErr result IsNotDiskFault }
+    ensures given { filter.now ≡ reading.now.filter → (before : List Row) → part_of reading.now before ≡ Ok found.old
+        → AnswersBy (λ u. found.new) (part_of reading.now (before ++ rows.now)) result }
+    ensures not_disk { filter.now ≡ reading.now.filter → (before : List Row) → part_of reading.now before ≡ Ok found.old
+        → IfErr result IsNotDiskFault }
 {
     let condition = condition_of(reading.sources.as_slice(), 0);
     let loops = loops_over(reading, filter, rows);
     give_each(alloc, loops, condition, rows.as_slice(), found)
 }
 
-/// Adds what a query, with its WHERE prepared, gives of these rows of its only source to what it gave of those before them; or the first
+/// Adds what a query, with its WHERE prepared, keeps of these rows of its only source to what it kept of those before them; or the first
 /// refusal of these. A query that isn't row by row is refused.
 pub fn give_rows(
     alloc: Global,
@@ -152,18 +196,18 @@ pub fn give_rows(
     found: &mut GivenRows,
 ) -> R<()>
     ensures given { meant.is_row_by_row reading.now ≡ true → filter.now ≡ reading.now.filter → (before : List Row)
-        → given_of reading.now before ≡ Ok found.old
-        → AnswersBy (λ u. found.new) (given_of reading.now (before ++ rows.now)) result }
-    ensures not_disk { IfErr result IsNotDiskFault }
+        → part_of reading.now before ≡ Ok found.old
+        → AnswersBy (λ u. found.new) (part_of reading.now (before ++ rows.now)) result }
+    ensures not_disk { meant.is_row_by_row reading.now ≡ true → filter.now ≡ reading.now.filter → (before : List Row)
+        → part_of reading.now before ≡ Ok found.old → IfErr result IsNotDiskFault }
 {
     if !is_row_by_row(reading) {
         return Err(Fault::Misuse(Misuse::Count));
     }
-    give_part(alloc, reading, filter, rows, &mut found.rows)
+    give_part(alloc, reading, filter, rows, found)
 }
 
-/// What a query that is row by row gives of no rows, and what is refused of some rows of its source.
+/// What is refused of some rows of a query's source is refused of these and more.
 pub fn rows_are_given_in_parts()
-    ensures none { GiveNone }
-    ensures refused { StayRefused }
+    ensures { StayRefused }
 {}

@@ -1,7 +1,6 @@
-use Rattle.std.proofs.Common.{rules, ◌≡◌, ◌∷◌, [], Ok, None, map}
+use Rattle.std.proofs.Common.{rules, ◌≡◌, Ok, None, map}
 use Rattle.std.specs.Prelude.{⊤}
 use Rattle.pages.specs.Calls.{Stays}
-use Rattle.query_answer.specs.Nesting.{beside_rows}
 use Rattle.row_scan.specs.Rows.{values_of}
 use Rattle.row_scan.specs.Sources.{places_shown}
 use Rattle.executor.proofs.StreamedRows.{all_streamed, leaf_refused, leaf_streamed, leaf_unread, none_streamed}
@@ -10,8 +9,8 @@ use Rattle.executor.proofs.reading.streamed_rows.Goals as goal
 pub leaves-init : goal.leaves-init
 leaves-init g c =
     let gs = g.P.Pages in
-    none_streamed gs.below gs.tells gs.limits gs.map gs.count gs.failures c.args.pages.now c.args.reading.now c.args.table (places_shown c.args.shown) c.new-cursor.result.root c.new-cursor.result.next c.new-found.result
-    c.rows_are_given_in_parts.ensures.none c.requires c.new-found.ensures c.new-cursor.ensures.root c.new-cursor.ensures.first
+    none_streamed gs.below gs.tells gs.limits gs.map gs.count gs.failures c.args.pages.now c.args.reading.now c.args.table (places_shown c.args.shown) c.new-cursor.result.root c.new-cursor.result.next c.in_ok-found.found
+    (c.in_ok-found.ensures c.requires) c.new-cursor.ensures.root c.new-cursor.ensures.first
 
 pub returns-in_err-rows-clause-answered : goal.returns-in_err-rows-clause-answered
 returns-in_err-rows-clause-answered g c = λ told.
@@ -32,14 +31,14 @@ returns-in_err-give_rows-clause-answered g c = λ told.
     (let gs = g.P.Pages in
     leaf_refused gs.below gs.tells gs.limits gs.map gs.count gs.failures c.args.pages.now c.leaves.pages c.args.reading.now c.args.table (places_shown c.args.shown) c.leaves.cursor.root c.leaves.cursor.next c.next_shown_rows.new.cursor.next c.leaves.found
     c.leaves.invariant c.in_ok-rows.rows c.in_ok-rows.ensures.given (λ rows. map values_of rows.items) c.in_err-give_rows.field-0.0 c.from_residual-in_err-give_rows.result c.rows_are_held.ensures
-    c.rows_are_given_in_parts.ensures.refused c.requires c.from_residual-in_err-give_rows.ensures.1 (c.in_err-give_rows.ensures.given c.requires c.in_ok-filter.ensures.prepared) told)
+    c.rows_are_given_in_parts.ensures c.requires c.from_residual-in_err-give_rows.ensures.1 (c.in_err-give_rows.ensures.given c.requires c.in_ok-filter.ensures.prepared) told)
 
 pub returns-clause-answered : goal.returns-clause-answered
 returns-clause-answered g c = λ told.
     (let gs = g.P.Pages in
     let none : c.leaves.cursor.next ≡ None = search rules in
     all_streamed gs.below gs.tells gs.limits gs.map gs.count gs.failures (λ rows. map values_of rows.items) c.args.pages.now c.leaves.pages c.args.reading.now c.args.table (places_shown c.args.shown) c.leaves.cursor.root c.leaves.cursor.next c.leaves.found
-    c.finish.result c.leaves.invariant none c.rows_are_held.ensures c.finish.ensures.answered told)
+    c.finish.result c.leaves.invariant none c.rows_are_held.ensures c.requires c.finish.ensures.answered told)
 
 pub returns-clause-wide : goal.returns-clause-wide
-returns-clause-wide g c = c.finish.ensures.wide (beside_rows c.args.reading.now.sources (c.leaves.invariant.before ∷ [])) c.leaves.invariant.given
+returns-clause-wide g c = c.finish.ensures.wide c.leaves.invariant.before c.requires c.leaves.invariant.given

@@ -1,4 +1,3 @@
-use Rattle.std.proofs.Common.{refl}
 use Rattle.query_answer.proofs.ShownRows.{shown_at}
 use Rattle.query_answer.proofs.shown.shown_places.Goals as goal
 

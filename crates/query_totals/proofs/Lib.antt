@@ -1,0 +1,3 @@
+pub mod EachTally
+pub mod Kept
+pub mod Taken
