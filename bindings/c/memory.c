@@ -187,19 +187,30 @@ static void judge(int holds, const char *sql, long allocation) {
   }
 }
 
-/* Executes a statement again and again, each time with the next allocation failing, until it comes to its end; until then the tables are as
- * they were before it. (What is kept of a refusal may lack memory: so one that is refused in the end may have had an allocation that failed.) */
+/* Whether a step changes rows, and can be taken back. */
+static int is_change(const Step *step) {
+  return step->refused == 0 && strncmp(step->sql, "BEGIN", 5) != 0 && strncmp(step->sql, "SAVEPOINT", 9) != 0;
+}
+
+/* Executes a statement again and again, each time with the next allocation failing, until it comes to its end without one; until then the tables
+ * are as they were before it. (What is kept of a refusal may lack memory: so one that is refused in the end may have had an allocation that failed.
+ * And where a shorter way lacks memory, a change may go a longer one: then it is taken back, and tried with the next allocation.) */
 static void fail_each(kinolavust *db, const Step *step, const char *before) {
-  int refused = MEMORY;
-  for (long allocation = 1; refused == MEMORY && failed < 10; allocation++) {
+  int is_over = 0;
+  for (long allocation = 1; !is_over && failed < 10; allocation++) {
+    if (is_change(step)) judge(run(db, "SAVEPOINT again", NULL) == 0, step->sql, 0);
     has_failed = 0;
     left = allocation;
-    refused = kinolavust_execute(db, 1, step->sql, strlen(step->sql), NULL);
+    int refused = kinolavust_execute(db, 1, step->sql, strlen(step->sql), NULL);
     left = 0;
+    int is_made_up = has_failed && refused == 0 && is_change(step);
     if (refused == MEMORY)
       judge(has_failed && shows(db, before), step->sql, allocation);
     else
-      judge((!has_failed || refused) && refused == step->refused && shows(db, step->shown), step->sql, allocation);
+      judge((!has_failed || refused || is_made_up) && refused == step->refused && shows(db, step->shown), step->sql, allocation);
+    is_over = refused != MEMORY && !is_made_up;
+    if (is_made_up) judge(run(db, "ROLLBACK TO again", NULL) == 0 && shows(db, before), step->sql, allocation);
+    if (is_change(step)) judge(run(db, "RELEASE again", NULL) == 0, step->sql, allocation);
   }
 }
 
