@@ -1,5 +1,5 @@
 -- Rowids that are none of some.
-use Rattle.std.proofs.Common.{SFits, w64, ◌≡◌, refl, subst, ℕ, zero, suc, ◌+◌, ◌-◌, ◌^◌, ◌<◌, ◌≤◌, ℤ, pos, negsuc, ◌+ℤ◌, ◌-ℤ◌, ◌<ℤ◌, ◌≤ℤ◌, List, [], ◌∷◌, length, slice_index_or, Bool, true, false, cond, arith}
+use Rattle.std.proofs.Common.{SFits, w64, ◌≡◌, refl, sym, subst, ℕ, zero, suc, ◌+◌, ◌-◌, ◌^◌, ◌<◌, ◌≤◌, ℤ, pos, negsuc, ◌+ℤ◌, ◌-ℤ◌, ◌<ℤ◌, ◌≤ℤ◌, List, [], ◌∷◌, length, slice_index_or, Bool, true, false, cond, arith}
 use Rattle.std.proofs.lemmas.Int.{ints}
 use Rattle.std.proofs.lemmas.Grind.{common_steps}
 use Rattle.std.proofs.lemmas.Bool.{false≢true}
@@ -10,7 +10,7 @@ use Rattle.std.specs.Cmp.{int_ranks}
 use Rattle.std.specs.Ordering.{MatchOrdering, int_cmp, is_lt, ord_max, eq_by_cmp}
 use Rattle.std.specs.declared.cmp.Ordering.{Ordering}
 use Rattle.std.specs.declared.cmp.Ordering.TheVariants.{Less, Equal, Greater}
-use Rattle.catalog.specs.UnusedRowids.{AreUpTo, is_among}
+use Rattle.catalog.specs.UnusedRowids.{AreTakenAfter, AreUpTo, is_among}
 
 same_int : (a b : ℤ) → eq_by_cmp int_cmp a b ≡ true → a ≡ b
 same_int a b h = tells_apart exact_signed a b h
@@ -119,3 +119,91 @@ all_taken rowids rowid is = by_test (is_among rowid rowids) refl
     by_test : (b : Bool) → is_among rowid rowids ≡ b → b ≡ false
     by_test true e = let g = is.greater in let o = one_over rowid rowids e in let few = over_few (rowid -ℤ pos 1) rowids in absurd (omega (arith, g, o, few))
     by_test false e = refl
+
+-- ---- rowids after one
+
+-- what is after the greatest of all, and more, is none of them
+pub past_greatest : (xs : List ℤ) (most both next : ℤ) → AreUpTo most xs → most ≤ℤ both → next ≡ both +ℤ pos 1 → is_among next xs ≡ false
+past_greatest xs most both next up more is = not_past xs most next up (after most both next more is)
+  where
+    after : (a b c : ℤ) → a ≤ℤ b → c ≡ b +ℤ pos 1 → a <ℤ c
+    after a b c h e = grind (arith)
+
+-- the next one
+over_next : (z next : ℤ) (xs : List ℤ) → next ≡ z +ℤ pos 1 → is_among next xs ≡ true → suc (over next xs) ≤ over z xs
+over_next z next xs is has = subst (λ (y : ℤ). suc (over next xs) ≤ over y xs) (before z next is) (one_over next xs has)
+  where
+    before : (z next : ℤ) → next ≡ z +ℤ pos 1 → next -ℤ pos 1 ≡ z
+    before z next e = omega (arith, ints, e)
+
+-- all after the first up to this one are taken, so many of them at most
+pub record AreTakenTo (rowids : List ℤ) (first rowid : ℤ) (count : ℕ) : Type 0 where
+  pub from : first ≤ℤ rowid
+  pub fewer : over rowid rowids + count ≤ length rowids
+  pub taken : (z : ℤ) → first <ℤ z → z ≤ℤ rowid → is_among z rowids ≡ true
+
+pub none_taken_to : (rowids : List ℤ) (first : ℤ) → AreTakenTo rowids first first 0
+none_taken_to rowids first = record {
+  from = itself first;
+  fewer = (let few = over_few first rowids in omega (arith, few));
+  taken = λ z after upto. absurd (neither first z after upto);
+}
+  where
+    itself : (a : ℤ) → a ≤ℤ a
+    itself a = grind (arith)
+
+    neither : (a z : ℤ) → a <ℤ z → z ≤ℤ a → ⊥
+    neither a z h k = grind (arith)
+
+pub next_taken_to : (rowids : List ℤ) (first rowid next : ℤ) (count : ℕ) → next ≡ rowid +ℤ pos 1 → is_among next rowids ≡ true → AreTakenTo rowids first rowid count → AreTakenTo rowids first next (count + 1)
+next_taken_to rowids first rowid next count is has so = record {
+  from = further first rowid next so.from is;
+  fewer = (let less = over_next rowid next rowids is has in let few = so.fewer in omega (arith, less, few));
+  taken = λ z after upto. by_rank z after upto (int_cmp z next) (int_ranks z next);
+}
+  where
+    further : (a b c : ℤ) → a ≤ℤ b → c ≡ b +ℤ pos 1 → a ≤ℤ c
+    further a b c h e = grind (arith)
+
+    before : (z b c : ℤ) → z <ℤ c → c ≡ b +ℤ pos 1 → z ≤ℤ b
+    before z b c h e = grind (arith)
+
+    neither : (a z : ℤ) → a <ℤ z → z ≤ℤ a → ⊥
+    neither a z h k = grind (arith)
+
+    by_rank : (z : ℤ) → first <ℤ z → z ≤ℤ next → (r : Ordering) → MatchOrdering r (z <ℤ next) (z ≡ next) (next <ℤ z) → is_among z rowids ≡ true
+    by_rank z after upto Less h = so.taken z after (before z rowid next h is)
+    by_rank z after upto Equal h = subst (λ (y : ℤ). is_among y rowids ≡ true) (sym h) has
+    by_rank z after upto Greater h = absurd (neither next z h upto)
+
+pub after_first : (rowids : List ℤ) (first rowid next : ℤ) (count : ℕ) → next ≡ rowid +ℤ pos 1 → AreTakenTo rowids first rowid count → first <ℤ next
+after_first rowids first rowid next count is so = further first rowid next so.from is
+  where
+    further : (a b c : ℤ) → a ≤ℤ b → c ≡ b +ℤ pos 1 → a <ℤ c
+    further a b c h e = grind (arith)
+
+-- where as many are taken as there are, the next is none of them
+pub past_taken : (rowids : List ℤ) (first rowid next : ℤ) → next ≡ rowid +ℤ pos 1 → AreTakenTo rowids first rowid (length rowids) → is_among next rowids ≡ false
+past_taken rowids first rowid next is so = by_test (is_among next rowids) refl
+  where
+    by_test : (b : Bool) → is_among next rowids ≡ b → b ≡ false
+    by_test true e = let less = over_next rowid next rowids is e in let few = so.fewer in absurd (omega (arith, less, few))
+    by_test false e = refl
+
+-- where no number is next, all are taken
+pub taken_after : (rowids : List ℤ) (first rowid : ℤ) (count : ℕ) → SFits w64 rowid → (SFits w64 (rowid +ℤ pos 1) → ⊥) → AreTakenTo rowids first rowid count → AreTakenAfter first rowids
+taken_after rowids first rowid count fits last so = λ later after upto. so.taken later after (by_rank later upto (int_cmp rowid (pos 9223372036854775807)) (int_ranks rowid (pos 9223372036854775807)))
+  where
+    up_to : (a b c : ℤ) → a ≤ℤ b → b ≡ c → a ≤ℤ c
+    up_to a b c h e = grind (arith)
+
+    below : (a b c : ℤ) → a ≤ℤ b → b <ℤ c → a ≤ℤ c
+    below a b c h k = grind (arith)
+
+    more : (z : ℤ) → SFits w64 z → z <ℤ pos 9223372036854775807 → SFits w64 (z +ℤ pos 1)
+    more z is less = record { sfits = grind (arith, ints, is.sfits, less) }
+
+    by_rank : (later : ℤ) → later ≤ℤ pos 9223372036854775807 → (r : Ordering) → MatchOrdering r (rowid <ℤ pos 9223372036854775807) (rowid ≡ pos 9223372036854775807) (pos 9223372036854775807 <ℤ rowid) → later ≤ℤ rowid
+    by_rank later upto Less h = absurd (last (more rowid fits h))
+    by_rank later upto Equal h = up_to later (pos 9223372036854775807) rowid upto (sym h)
+    by_rank later upto Greater h = below later (pos 9223372036854775807) rowid upto h

@@ -1,6 +1,6 @@
 //! Rowids of the schema table that are free.
 
-ghost use Rattle.std.specs.Prelude.{◌≡◌, ◌<◌, ◌++◌, ℤ, length, slice_index_or, false, flat_map, map, IfOk, IfErr, OnOk};
+ghost use Rattle.std.specs.Prelude.{◌≡◌, ◌⊎◌, ◌<◌, ◌<ℤ◌, ◌++◌, ℤ, length, slice_index_or, false, flat_map, map, IfOk, IfErr, OnOk};
 ghost use Rattle.catalog.specs.Listed as listed;
 ghost use Rattle.catalog.specs.UnusedRowids as unused;
 
@@ -147,5 +147,39 @@ pub(crate) fn unused_among(rowids: &[i64]) -> i64
     match greatest(rowids).checked_add(1) {
         Some(rowid) => rowid,
         None => greatest_unused(rowids),
+    }
+}
+
+/// The least rowid after this one that is none of these. (`RowidFull` if there is none.)
+fn least_unused(rowids: &[i64], after: i64) -> R<i64>
+    ensures free { IfOk result (λ rowid. unused.is_among rowid rowids.now ≡ false) }
+    ensures after { IfOk result (λ rowid. after <ℤ rowid) }
+    ensures refused { IfErr result (λ fault. (fault ≡ Fault.RowidFull) × unused.AreTakenAfter after rowids.now) }
+{
+    let mut rowid = after;
+    'taken: for _ in 0..rowids.len() {
+        let Some(next) = rowid.checked_add(1) else {
+            return Err(Fault::RowidFull);
+        };
+        if !is_among(rowids, next) {
+            return Ok(next);
+        }
+        rowid = next;
+    }
+    match rowid.checked_add(1) {
+        Some(next) => Ok(next),
+        None => Err(Fault::RowidFull),
+    }
+}
+
+/// A rowid after this one that is none of these: the one after the greatest of all, or else the least that is free. (`RowidFull` if there is none.)
+pub(crate) fn unused_past(rowids: &[i64], after: i64) -> R<i64>
+    ensures free { IfOk result (λ rowid. unused.is_among rowid rowids.now ≡ false) }
+    ensures after { IfOk result (λ rowid. after <ℤ rowid) }
+    ensures refused { IfErr result (λ fault. (fault ≡ Fault.RowidFull) × unused.AreTakenAfter after rowids.now) }
+{
+    match greatest(rowids).max(after).checked_add(1) {
+        Some(rowid) => Ok(rowid),
+        None => least_unused(rowids, after),
     }
 }

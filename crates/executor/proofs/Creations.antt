@@ -51,7 +51,7 @@ use Rattle.executor.proofs.FoundTables.{names, names_are, neither, no_no, same_b
 use Rattle.executor.specs.Holding.{AreNewNames, HoldsListed, HoldsTrees, IsKeyRefusal, IsKeyed}
 use Rattle.executor.proofs.HeldTrees.{none_there, page_size, rows_here, rows_with, schema_stands, stored_of, trees_held, with_schema, with_table}
 use Rattle.executor.proofs.KeyCreations.{all_automatic, take_due}
-use Rattle.executor.proofs.KeyIndexes.{all_replaced, wide_keys}
+use Rattle.executor.proofs.KeyIndexes.{all_replaced, some_keys, wide_keys}
 use Rattle.executor.proofs.NewNames.{automatic_names_are_new, not_reserved}
 use Rattle.executor.proofs.Replacing.{turned}
 use Rattle.executor.proofs.Roots.{found_root, roots_of}
@@ -170,14 +170,14 @@ module _ (laws : Laws) (old : PageMap) (size : ℕ) (l : Listed) (db : Database)
     -- its row isn't added
     pub refused_row : (f : Fault) → IsOutsideOrFull f ⊎ AreTooLong (schema_row (codes "table") d.name d.name root (Some sql)) f → IsChangeRefusal (creating sql d) db f
     refused_row f (inl full) = inl full
-    refused_row f (inr (what, long)) = inr (inr (record {
+    refused_row f (inr (what, long)) = inr (inr (inl (record {
       is = what;
       why = inr (record {
         made = made_of db d t;
         reaches = reached sql db held.rows_at l d t held.of_listed new_table;
         long = (root, inl long);
       });
-    }))
+    })))
 
     module _ (text : IsCreateOf sql (object.Table d)) (new : PageMap) (unused : is_among t.rowid (rowids_of l) ≡ false)
         (added : IsAdded mid new size (schema_row (codes "table") d.name d.name root (Some sql)) held.schema held.schema_used tree.now_free t.rowid) where
@@ -288,15 +288,16 @@ module _ (old : PageMap) (size : ℕ) (l : Listed) (db : Database) (held : Store
 
   pub refused_keys : (f : Fault) → IsKeyRefusal t f → IsChangeRefusal (creating sql d) db f
   refused_keys f (inl full) = inl full
-  refused_keys f (inr (inl (what, wide))) = inr (inr (record { is = what; why = inl (sym (wide_keys d t new_table.makes.keys) ∙ wide) }))
-  refused_keys f (inr (inr (number, root, (what, long)))) = inr (inr (record {
+  refused_keys f (inr (inl (what, some))) = inr (inr (inr (record { is = what; why = some_keys d t new_table.makes.keys some })))
+  refused_keys f (inr (inr (inl (what, wide)))) = inr (inr (inl (record { is = what; why = inl (sym (wide_keys d t new_table.makes.keys) ∙ wide) })))
+  refused_keys f (inr (inr (inr (number, root, (what, long))))) = inr (inr (inl (record {
     is = what;
     why = inr (record {
       made = made_of db d t;
       reaches = reached sql db held.rows_at l d t held.of_listed new_table;
       long = (root, inr (number, subst (λ (n : Name). AreStorable (schema_row (codes "index") (automatic_name n number) n root None) → ⊥) new_table.makes.name_is long));
     });
-  }))
+  })))
 
   pub creates : (after : Listed) → IsKeyed last size (more l t) (bare_made db d t) t (length t.keys) after → IsMade (creating sql d) db last size after
   creates after k = record {

@@ -160,9 +160,10 @@ module _ (laws : Laws) (old : PageMap) (size : ℕ) (l : Listed) (db : Database)
     -- why it isn't listed is why the statement is refused
     pub refused : (f : Fault) → IsListingRefusal t index d.name (Some sql) rows f → IsChangeRefusal (creating sql d) db f
     refused f (inl full) = inl full
-    refused f (inr (inl (what, clash))) = inr (inl (subst (λ (g : Fault). RefusesWith (change_made (creating sql d) db) (refusal_of g)) (sym what) (refused_clash clash)))
-    refused f (inr (inr (inl (what, wide)))) = inr (inr (record { is = what; why = inl (ap is_wide (sym columns_long) ∙ wide) }))
-    refused f (inr (inr (inr (apart, (root, (what, long)))))) = inr (inr (record { is = what; why = inr (record { made = made; reaches = reached apart; long = (t.name, root, sym same_name, long) }) }))
+    refused f (inr (inl full)) = inr (inr (inr (record { is = full; why = tt })))
+    refused f (inr (inr (inl (what, clash)))) = inr (inl (subst (λ (g : Fault). RefusesWith (change_made (creating sql d) db) (refusal_of g)) (sym what) (refused_clash clash)))
+    refused f (inr (inr (inr (inl (what, wide))))) = inr (inr (inl (record { is = what; why = inl (ap is_wide (sym columns_long) ∙ wide) })))
+    refused f (inr (inr (inr (inr (apart, (root, (what, long))))))) = inr (inr (inl (record { is = what; why = inr (record { made = made; reaches = reached apart; long = (t.name, root, sym same_name, long) }) })))
 
     its_keys : HasKeyIndexes t
     its_keys = let a = found_among (is_table d.table) l.tables t is.on in one_of HasKeyIndexes a.front t a.back (subst (AllByRecursion HasKeyIndexes) a.parts held.keys)

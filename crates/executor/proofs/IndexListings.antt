@@ -294,6 +294,12 @@ module _ (laws : Laws) (old : PageMap) (size : ℕ) (l : Listed) (db : Database)
           rows_are = rows_here held.rows_at t.root t.root rows refl;
         })
 
+  -- ---- the call that finds its rowid
+
+  pub refused_rowid : {X : Type 0} (f : Fault) → (f ≡ fault.Memory) ⊎ ((f ≡ fault.RowidFull) × X) → IsListingRefusal t index name sql rows f
+  refused_rowid f (inl memory) = inl (inl (inl memory))
+  refused_rowid f (inr (full, taken)) = inr (inl full)
+
   -- ---- the call that makes its tree
 
   pub refused_tree : (mid : PageMap) (f : Fault) → AddsIndex old mid size t index.columns index.is_unique (Err f) → IsListingRefusal t index name sql rows f
@@ -302,8 +308,8 @@ module _ (laws : Laws) (old : PageMap) (size : ℕ) (l : Listed) (db : Database)
     where
       by : IsRefusedIndex index.columns index.is_unique rows f → IsListingRefusal t index name sql rows f
       by (inl full) = inl full
-      by (inr (inl (what, clash))) = inr (inl (what, clash))
-      by (inr (inr (what, wide))) = inr (inr (inl (what, wide)))
+      by (inr (inl (what, clash))) = inr (inr (inl (what, clash)))
+      by (inr (inr (what, wide))) = inr (inr (inr (inl (what, wide))))
 
   -- it is made over rows that it keeps apart
   then_added : (mid : PageMap) (root : ℕ) → AddsIndex old mid size t index.columns index.is_unique (Ok root)
@@ -331,7 +337,7 @@ module _ (laws : Laws) (old : PageMap) (size : ℕ) (l : Listed) (db : Database)
       where
         by : IsOutsideOrFull f ⊎ AreTooLong row_values f → IsListingRefusal t index name sql rows f
         by (inl full) = inl full
-        by (inr long) = inr (inr (inr (apart, (root, long))))
+        by (inr long) = inr (inr (inr (inr (apart, (root, long)))))
 
     pub row_added : AddsRow mid new size rowid row_values (Ok tt) → (now_listed : Listed) → now_listed ≡ replacing (with_index (i root rowid) t) l → IsListedWith new size l db t index rows now_listed
     row_added adds now_listed same =

@@ -262,7 +262,7 @@ module _ (laws : Laws) (pages : PageMap) (size : ℕ) (l : Listed) (db : Databas
   put_refused f (inl outside) = inl outside
   put_refused f (inr (inl as_rows)) = inr (inl (refused f as_rows))
   put_refused f (inr (inr (what, wide))) =
-      inr (inr (record { is = what; why = inl (wide_in db t i.table (same_folded t.name i.table (found_is (is_table i.table) l.tables t named)) (indexes_listed held.rows_at l db held.of_listed owned.front t owned.back owned.tables_are) wide) }))
+      inr (inr (inl (record { is = what; why = inl (wide_in db t i.table (same_folded t.name i.table (found_is (is_table i.table) l.tables t named)) (indexes_listed held.rows_at l db held.of_listed owned.front t owned.back owned.tables_are) wide) })))
 
   abbrev trees : HoldsTrees pages size held.rows_at l.tables held.schema
   trees = trees_held pages size l db held

@@ -143,6 +143,11 @@ at_middle : (p : Table → Bool) (front : List Table) (t : Table) (back : List T
 at_middle p [] t back none = (neither (p t) (list_any p back) none).0
 at_middle p (x ∷ front) t back none = at_middle p front t back (neither (p x) (list_any p (front ++ t ∷ back)) none).1
 
+-- a list of an item has one
+some_length : {A : Type 0} (xs : List A) (p : ℕ) (x : A) → slice_get xs p ≡ Some x → 0 < length xs
+some_length [] p x is = absurd cc
+some_length (y ∷ ys) p x is = omega arith
+
 -- ---- one after another
 
 -- what a call comes to that lists an index with a table
@@ -258,9 +263,10 @@ module _ (old : PageMap) (size : ℕ) (before : Listed) (db : Database) (held : 
       -- or why there isn't
       pub key_refused : (f : Fault) → IsListingRefusal k.keyed index own_name None (k.holds.rows_at k.keyed.root) f → IsKeyRefusal table f
       key_refused f (inl full) = inl full
-      key_refused f (inr (inl (what, clash))) = absurd (false≢true (subst (λ (rows : List TableRow). has_clash (as_index k.keyed index) rows ≡ true) (ap k.holds.rows_at same_root ∙ k.empty) clash))
-      key_refused f (inr (inr (inl (what, wide)))) = inr (inl (what, any_at (λ (columns : List IndexColumn). is_wide (length columns)) table.keys place columns here wide))
-      key_refused f (inr (inr (inr (apart, (root, long))))) = inr (inr (place + 1, root, subst (λ (n : Name). AreTooLong (schema_row (codes "index") own_name n root None) f) same_name long))
+      key_refused f (inr (inl what)) = inr (inl (what, some_length table.keys place columns here))
+      key_refused f (inr (inr (inl (what, clash)))) = absurd (false≢true (subst (λ (rows : List TableRow). has_clash (as_index k.keyed index) rows ≡ true) (ap k.holds.rows_at same_root ∙ k.empty) clash))
+      key_refused f (inr (inr (inr (inl (what, wide))))) = inr (inr (inl (what, any_at (λ (columns : List IndexColumn). is_wide (length columns)) table.keys place columns here wide)))
+      key_refused f (inr (inr (inr (inr (apart, (root, long)))))) = inr (inr (inr (place + 1, root, subst (λ (n : Name). AreTooLong (schema_row (codes "index") own_name n root None) f) same_name long)))
 
     -- what the call comes to that lists the next one
     core : {X : Type 0} (listed_by : X → Listed) (columns : List IndexColumn) (here : slice_get table.keys place ≡ Some columns) (last : PageMap) (result : Result X Fault)

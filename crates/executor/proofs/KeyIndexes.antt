@@ -1,5 +1,5 @@
 -- The automatic indexes of tables that change, and how wide they are.
-use Rattle.std.proofs.Common.{◌≡◌, refl, sym, ap, ◌∙◌, ℕ, Bool, true, false, not, ◌||◌, cond, map, filter, List, [], ◌∷◌, ◌++◌, length}
+use Rattle.std.proofs.Common.{◌≡◌, ◌<◌, arith, refl, sym, ap, ◌∙◌, ℕ, Bool, true, false, not, ◌||◌, cond, map, filter, List, [], ◌∷◌, ◌++◌, length}
 use Rattle.std.proofs.lemmas.Bool.{false≢true}
 use Rattle.std.proofs.lemmas.List.{length-map}
 use Rattle.std.specs.Prelude.{is_none}
@@ -155,6 +155,19 @@ listed_wide [] = refl
 listed_wide (columns ∷ listed) =
     ap (λ n. is_wide n || list_any (λ (columns : List IndexColumn). is_wide (length columns)) listed) (sym (length-map columns (λ (c : IndexColumn). (c.place, c.collation))))
     ∙ ap (λ b. is_wide (length (key_columns columns)) || b) (listed_wide listed)
+
+-- a table with keys is of a definition with keys
+pub some_keys : (d : TableDefinition) (t : Table) → HasKeysOf d t → 0 < length t.keys → 0 < length (keys_of d)
+some_keys d t has some =
+    let known = known_all (map (key_known d.name t.columns) (keys_of d)) in
+    let split = (unless_good (any_twice are_doubled (keys_of d)) Misuse (known_map (keys_split d.columns) known) (t.rowid_column, map key_columns t.keys) has).1 in
+    let bound = map_good (keys_split d.columns) known (t.rowid_column, map key_columns t.keys) split in
+    by (keys_of d) bound.0 bound.1 (ap (λ p. p.1) bound.2)
+  where
+    by : (written : List WrittenKey) (keys : List Known) → known_all (map (key_known d.name t.columns) written) ≡ good keys → other_keys d.columns keys ≡ map key_columns t.keys → 0 < length written
+    by [] [] e is = let none = sym (length-map t.keys key_columns) ∙ ap length (sym is) in absurd (omega (arith, none, some))
+    by [] (key ∷ keys) e is = absurd (no_more key keys (ap meant e))
+    by (key ∷ written) keys e is = omega arith
 
 -- a key of a table is too wide where one of its definition is
 pub wide_keys : (d : TableDefinition) (t : Table) → HasKeysOf d t

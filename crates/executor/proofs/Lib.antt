@@ -1,5 +1,6 @@
 pub mod Calm
 pub mod AddedRows
+mod AfterRows
 pub mod Answering
 pub mod Creations
 pub mod Deletions
@@ -42,6 +43,7 @@ mod AllRows
 mod LiteralSets
 mod PlacesByColumn
 mod RowsInStores
+mod SeenViews
 pub mod ShownViews
 mod SingleRows
 mod StoredAgain

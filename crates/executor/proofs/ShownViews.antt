@@ -20,6 +20,7 @@ use Rattle.query_bind.specs.Named.{ArePlaced, IsPlaced, place_seen}
 use Rattle.query_bind.specs.declared.querying.BoundReading.{BoundReading}
 use Rattle.query_answer.specs.Answers.{LoadsBeside}
 use Rattle.query_answer.specs.Nesting.{Named, beside_rows}
+use Rattle.query_answer.specs.Parts.{answer_on}
 use Rattle.query_answer.specs.Shown.{shown_of}
 use Rattle.row_scan.specs.Rows.{TableRow}
 use Rattle.row_scan.specs.Sources.{LoadsShown, as_source, shown_source}
@@ -75,29 +76,34 @@ module _ (beside : LoadsBeside) (finds : FindsListed) (law : ViewsAreKnown) (pag
 
 -- ---- a query over such a view
 
-only_view : (l : Listed) (sources : List Named) → ArePlaced l sources (the_view ∷ []) → (s : Named) × (sources ≡ s ∷ []) × IsPlaced l s the_view
+pub only_view : (l : Listed) (sources : List Named) → ArePlaced l sources (the_view ∷ []) → (s : Named) × (sources ≡ s ∷ []) × IsPlaced l s the_view
 only_view l [] placed = absurd placed
 only_view l (s ∷ []) placed = (s, refl, placed.0)
 only_view l (s ∷ t ∷ ss) placed = absurd placed.1
 
--- what is read of its table is what it comes to
-pub over_view : {X : Type 0} (by : X → List (List Value)) (beside : LoadsBeside) (finds : FindsListed) (law : ViewsAreKnown) (pages : PageMap) (size : ℕ) (l : Listed) (room : ℕ) (db : Database) (stored : Stores pages size l db)
-    (bound : BoundReading) (table : BoundSource) (places : List Place) (result : Result X Fault) → IsStreamedView l room bound table places → ArePlaced l bound.reading.sources bound.origins
-    → Streams by pages size bound.reading table (Some places) result → AnswersOrFails by (answer_within room db bound.reading) result
-over_view by beside finds law pages size l room db stored bound table places result is placed streams =
-    subst (λ (a : Answer (List (List Value))). AnswersOrFails by a result) (sym (answer_over beside room db bound.reading (rows ∷ []) each))
-    (streams (stored.rows_at table.root) stored.shared.whole (table_has beside finds law pages size l is.view table places is.shows db stored))
-  where
-    rows : List Row
-    rows = map (shown_source (Some places)) (stored.rows_at table.root)
+module _ (beside : LoadsBeside) (finds : FindsListed) (law : ViewsAreKnown) (pages : PageMap) (size : ℕ) (l : Listed) (room : ℕ) (db : Database) (stored : Stores pages size l db) (bound : BoundReading) (table : BoundSource) (places : List Place)
+    (is : IsStreamedView l room bound table places) (placed : ArePlaced l bound.reading.sources bound.origins) where
+  abbrev rows : List Row
+  rows = map (shown_source (Some places)) (stored.rows_at table.root)
 
-    source : (s : Named) × (bound.reading.sources ≡ s ∷ []) × IsPlaced l s the_view
-    source = only_view l bound.reading.sources (subst (ArePlaced l bound.reading.sources) is.only placed)
+  source : (s : Named) × (bound.reading.sources ≡ s ∷ []) × IsPlaced l s the_view
+  source = only_view l bound.reading.sources (subst (ArePlaced l bound.reading.sources) is.only placed)
 
-    named : view_named source.0.0 l.views ≡ Some is.view
-    named = sym (ap (λ (them : List Named). option_and_then (λ (s : Named). view_named s.0 l.views) (slice_get them 0)) source.1) ∙ is.is
+  named : view_named source.0.0 l.views ≡ Some is.view
+  named = sym (ap (λ (them : List Named). option_and_then (λ (s : Named). view_named s.0 l.views) (slice_get them 0)) source.1) ∙ is.is
 
-    each : rows_of_each room db bound.reading.sources ≡ Ok (rows ∷ [])
-    each =
-        ap (rows_of_each room db) source.1
-        ∙ ap (λ (a : Answer (List Row)). a then λ x. Ok (x ∷ [])) (view_shows beside finds law pages size l is.view table places is.shows room db source.0.0 stored is.some_room source.2.0 named)
+  each : rows_of_each room db bound.reading.sources ≡ Ok (rows ∷ [])
+  each =
+      ap (rows_of_each room db) source.1
+      ∙ ap (λ (a : Answer (List Row)). a then λ x. Ok (x ∷ [])) (view_shows beside finds law pages size l is.view table places is.shows room db source.0.0 stored is.some_room source.2.0 named)
+
+  -- it is answered on what is shown of the rows of the view's table
+  pub view_answers : answer_within room db bound.reading ≡ answer_on bound.reading rows
+  view_answers = answer_over beside room db bound.reading (rows ∷ []) each
+
+  pub view_has : HasRows pages size table.root table.shape (stored.rows_at table.root)
+  view_has = table_has beside finds law pages size l is.view table places is.shows db stored
+
+  pub over_view : {X : Type 0} (by : X → List (List Value)) (result : Result X Fault) → Streams by (answer_on bound.reading) pages size table (Some places) result → AnswersOrFails by (answer_within room db bound.reading) result
+  over_view by result streams =
+      subst (λ (a : Answer (List (List Value))). AnswersOrFails by a result) (sym view_answers) (streams (stored.rows_at table.root) stored.shared.whole view_has)

@@ -57,6 +57,11 @@ module _ (laws : Laws) (old : PageMap) (size : ℕ) (l : Listed) (db : Database)
   pub none_at : (rowid : ℤ) → is_among rowid (rowids_of l) ≡ false → payload_at rowid held.schema ≡ None
   none_at rowid unused = free_at (length old) l held.schema rowid held.tell unused
 
+  -- no rowid is free for its row
+  pub refused_rowid : {X : Type 0} (f : Fault) → (f ≡ fault.Memory) ⊎ ((f ≡ fault.RowidFull) × X) → IsChangeRefusal (creating sql d) db f
+  refused_rowid f (inl memory) = inl (inl (inl memory))
+  refused_rowid f (inr (full, taken)) = inr (inr (inr (record { is = full; why = tt })))
+
   module _ (is : IsTriggerOn l d) where
     abbrev made : Database
     made = with_object db d.name (ATrigger d)
@@ -67,7 +72,7 @@ module _ (laws : Laws) (old : PageMap) (size : ℕ) (l : Listed) (db : Database)
     -- its row isn't added
     pub refused_row : (f : Fault) → IsOutsideOrFull f ⊎ AreTooLong (schema_row (codes "trigger") d.name d.target 0 (Some sql)) f → IsChangeRefusal (creating sql d) db f
     refused_row f (inl full) = inl full
-    refused_row f (inr (what, long)) = inr (inr (record { is = what; why = inr (record { made = made; reaches = reached; long = long }) }))
+    refused_row f (inr (what, long)) = inr (inr (inl (record { is = what; why = inr (record { made = made; reaches = reached; long = long }) })))
 
     module _ (creates : IsCreateOf sql (object.Trigger d)) (new : PageMap) (rowid : ℤ) (unused : is_among rowid (rowids_of l) ≡ false)
         (added : IsAdded old new size (schema_row (codes "trigger") d.name d.target 0 (Some sql)) held.schema held.schema_used held.free rowid) where

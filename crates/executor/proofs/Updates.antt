@@ -240,4 +240,4 @@ module _ (laws : Laws) (pages : PageMap) (size : ℕ) (l : Listed) (db : Databas
           by (inl outside) = inl outside
           by (inr (inl e)) = refuses f (change_is (Err (refusal_of f)) e)
           by (inr (inr (what, wide))) =
-              inr (inr (record { is = what; why = inl (wide_in db t u.table (same_folded t.name u.table (found_is (is_table u.table) l.tables t named)) (indexes_listed held.rows_at l db held.of_listed owned.front t owned.back owned.tables_are) wide) }))
+              inr (inr (inl (record { is = what; why = inl (wide_in db t u.table (same_folded t.name u.table (found_is (is_table u.table) l.tables t named)) (indexes_listed held.rows_at l db held.of_listed owned.front t owned.back owned.tables_are) wide) })))

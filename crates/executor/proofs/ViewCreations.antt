@@ -114,7 +114,7 @@ module _ (laws : Laws) (old : PageMap) (size : ℕ) (l : Listed) (db : Database)
     -- its row isn't added
     pub refused_row : (f : Fault) → IsOutsideOrFull f ⊎ AreTooLong (schema_row (codes "view") d.name d.name 0 (Some sql)) f → IsChangeRefusal (creating sql d) db f
     refused_row f (inl full) = inl full
-    refused_row f (inr (what, long)) = inr (inr (record { is = what; why = inr (record { made = with_object db d.name seen; reaches = reached; long = long }) }))
+    refused_row f (inr (what, long)) = inr (inr (inl (record { is = what; why = inr (record { made = with_object db d.name seen; reaches = reached; long = long }) })))
 
     module _ (creates : IsCreateOf sql (object.View d)) (new : PageMap) (rowid : ℤ) (unused : is_among rowid (rowids_of l) ≡ false)
         (added : IsAdded old new size (schema_row (codes "view") d.name d.name 0 (Some sql)) held.schema held.schema_used held.free rowid) where

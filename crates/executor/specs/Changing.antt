@@ -1,5 +1,5 @@
 -- What a statement's change makes of the pages that hold a database (SQL As Understood By SQLite, "CREATE TABLE", "CREATE INDEX", "INSERT").
-use Rattle.std.specs.Prelude.{◌≡◌, ◌⊎◌, ⊤, codes, ℕ, true, List, length, Some, None, Result, MatchResult}
+use Rattle.std.specs.Prelude.{◌≡◌, ◌⊎◌, ◌<◌, ⊤, codes, ℕ, true, List, length, Some, None, Result, MatchResult}
 use Rattle.std.specs.List.{list_any}
 use Rattle.sqlval.specs.Names.{folded}
 use Rattle.sqlval.specs.Refusals.{refusal_of}
@@ -83,11 +83,32 @@ pub record MakesLongRow (s : Statement) (db : Database) : Type 0 where
   pub long : HasLongText s
 
 -- something is too long for a record, whatever rows there are
-pub record IsTooMuch (s : Statement) (db : Database) (f : Fault) : Type 0 where
+pub record FitsNoRecord (s : Statement) (db : Database) (f : Fault) : Type 0 where
   pub is : f ≡ fault.TooLong
   pub why : MeetsWideIndex s db ⊎ MakesLongRow s db
 
--- Why a statement makes nothing: out of memory or of pages, by a disk, as its work is refused, or because something is too long for a record.
+abbrev MakesRowAfter : NewObject → Type 0
+MakesRowAfter (new.Index d) = ⊤
+MakesRowAfter (new.Table d) = 0 < length (keys_of d)
+MakesRowAfter (new.Trigger d) = ⊤
+MakesRowAfter (new.View d) = ⊥
+
+-- the statement creates what has a row after another in the schema table: an index, a table with keys, or a trigger
+abbrev pub AsksForRowAfter : Statement → Type 0
+AsksForRowAfter (statement.Create c) = MakesRowAfter c.object
+AsksForRowAfter _ = ⊥
+
+-- no rowid is free where a row would stand after that of its table or view
+pub record HasNoRowAfter (s : Statement) (f : Fault) : Type 0 where
+  pub is : f ≡ fault.RowidFull
+  pub why : AsksForRowAfter s
+
+-- something is too long for a record, or no rowid is free for a row of the schema table
+abbrev pub IsTooMuch : Statement → Database → Fault → Type 0
+IsTooMuch s db f = FitsNoRecord s db f ⊎ HasNoRowAfter s f
+
+-- Why a statement makes nothing: out of memory or of pages, by a disk, as its work is refused, or because something is too long for a record or no
+-- rowid is free.
 abbrev pub IsChangeRefusal : Statement → Database → Fault → Type 0
 IsChangeRefusal s db f = IsOutsideOrFull f ⊎ (RefusesWith (change_made s db) (refusal_of f) ⊎ IsTooMuch s db f)
 

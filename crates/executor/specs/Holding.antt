@@ -1,6 +1,6 @@
 -- Pages that hold listed tables with their indexes, whether or not each key of a table has its index: so they are while a CREATE TABLE makes
 -- these (Database File Format, "The Database File").
-use Rattle.std.specs.Prelude.{◌≡◌, ◌⊎◌, ℕ, ℤ, pos, true, false, List, [], ◌∷◌, Option, Some, None, length, codes, map, take, Result, MatchResult}
+use Rattle.std.specs.Prelude.{◌≡◌, ◌⊎◌, ◌<◌, ℕ, ℤ, pos, true, false, List, [], ◌∷◌, Option, Some, None, length, codes, map, take, Result, MatchResult}
 use Rattle.std.specs.List.{AllByRecursion, list_any}
 use Rattle.sqlval.specs.Names.{folded}
 use Rattle.sqlval.specs.declared.fault.Fault.{Fault}
@@ -63,13 +63,14 @@ pub record IsListedWith (new : PageMap) (size : ℕ) (before : Listed) (db : Dat
   pub holds : HoldsListed new size after (with_object db index.name (AnIndex (as_index table index)))
   pub rows_are : holds.rows_at table.root ≡ rows
 
--- Why it isn't: memory or pages are short, or a disk's call failed; two rows clash; or something is too long for a record, its row of the schema
--- table only where no two rows clash.
+-- Why it isn't: memory or pages are short, or a disk's call failed; no rowid after the table's is free; two rows clash; or something is too long
+-- for a record, its row of the schema table only where no two rows clash.
 abbrev pub IsListingRefusal : Table → Index → Name → Option (List ℕ) → List TableRow → Fault → Type 0
 IsListingRefusal table index name sql rows f = IsOutsideOrFull f
+    ⊎ ((f ≡ fault.RowidFull)
     ⊎ (((f ≡ fault.Unique) × (has_clash (as_index table index) rows ≡ true))
     ⊎ (((f ≡ fault.TooLong) × (is_wide (length index.columns) ≡ true))
-    ⊎ (has_clash (as_index table index) rows ≡ false) × ((root : ℕ) × AreTooLong (schema_row (codes "index") name table.name root sql) f)))
+    ⊎ (has_clash (as_index table index) rows ≡ false) × ((root : ℕ) × AreTooLong (schema_row (codes "index") name table.name root sql) f))))
 
 -- An index of a new name, not listed as yet, is listed with a table, whatever its root and its rowid were; or the call is refused.
 abbrev pub ListsIndex : PageMap → PageMap → ℕ → Listed → Table → Index → Name → Option (List ℕ) → Result Catalog Fault → Type 0
@@ -98,9 +99,11 @@ pub record IsKeyed (new : PageMap) (size : ℕ) (before : Listed) (db : Database
   pub holds : HoldsListed new size after (with_objects db (take count (due_objects table)))
   pub empty : holds.rows_at table.root ≡ []
 
--- Why they aren't: memory or pages are short, or a disk's call failed, or something is too long for a record.
+-- Why they aren't: memory or pages are short, or a disk's call failed, or no rowid after the table's is free for one of them, or something is too
+-- long for a record.
 abbrev pub IsKeyRefusal : Table → Fault → Type 0
 IsKeyRefusal table f = IsOutsideOrFull f
+    ⊎ (f ≡ fault.RowidFull) × (0 < length table.keys)
     ⊎ (f ≡ fault.TooLong) × (list_any (λ columns. is_wide (length columns)) table.keys ≡ true)
     ⊎ ((number : ℕ) × (root : ℕ) × AreTooLong (schema_row (codes "index") (automatic_name table.name number) table.name root None) f)
 

@@ -1,5 +1,6 @@
 -- Rows that are added to the schema table, and taken out of it (Database File Format, "Storage Of The SQL Database Schema").
-use Rattle.std.specs.Prelude.{◌≡◌, ◌⊎◌, ⊤, true, false, ℕ, ℤ, List, [], ◌∷◌, filter, map, None, Result, MatchResult}
+use Rattle.std.specs.Prelude.{◌≡◌, ◌⊎◌, ⊤, true, false, ℕ, ℤ, ◌<ℤ◌, List, [], ◌∷◌, filter, map, Option, None, Some, option_map, Result, MatchResult}
+use Rattle.std.specs.List.{AllByRecursion}
 use Rattle.sqlval.specs.Refusals.{Exists, Misuse, Refusal}
 use Rattle.sqlval.specs.declared.fault.Fault.{Fault}
 use Rattle.sqlval.specs.declared.fault.Fault.TheVariants as fault
@@ -12,9 +13,10 @@ use Rattle.pages.specs.Map.{PageMap}
 use Rattle.sql_syntax.specs.declared.create.TableDefinition.{TableDefinition}
 use Rattle.sql_syntax.specs.declared.create.ViewDefinition.{ViewDefinition}
 use Rattle.catalog.specs.Database.{Name}
-use Rattle.catalog.specs.Listed.{Listed, is_name_of, is_on, is_reserved, names_listed}
+use Rattle.catalog.specs.Listed.{Listed, is_name_of, is_on, is_reserved, names_listed, table_named, view_named}
 use Rattle.catalog.specs.declared.tables.Table.{Table}
 use Rattle.catalog.specs.declared.tables.Trigger.{Trigger}
+use Rattle.catalog.specs.declared.tables.View.{View}
 use Rattle.db_pages.specs.Schema.{IsTableOf}
 use Rattle.tree_table.specs.Calls.{BecomesRows, Stands}
 use Rattle.tree_table.specs.Rows.{payload_at, with_row, without_row}
@@ -79,3 +81,33 @@ pub record IsNewTable (l : Listed) (d : TableDefinition) (table : Table) : Type 
   pub makes : IsTableOf d table
   pub new : is_name_of l d.name ≡ false
   pub bare : table.indexes ≡ []
+
+-- ---- the order of rows
+
+-- the rowid of a table's row, or else of a view's
+abbrev pub row_among : Option Table → Option View → Option ℤ
+row_among (Some table) view = Some table.rowid
+row_among None view = option_map (λ v. v.rowid) view
+
+-- the rowid of the row of the table or view of a name
+abbrev pub target_row : Listed → Name → Option ℤ
+target_row l name = row_among (table_named name l.tables) (view_named name l.views)
+
+-- a rowid is there, and the other is greater
+abbrev pub StandsAfter : Option ℤ → ℤ → Type 0
+StandsAfter None rowid = ⊥
+StandsAfter (Some first) rowid = first <ℤ rowid
+
+-- the rows of a table's indexes stand after its own
+abbrev pub AreIndexesAfter : Table → Type 0
+AreIndexesAfter table = AllByRecursion (λ i. table.rowid <ℤ i.rowid) table.indexes
+
+-- a trigger's row stands after that of the table or view that it is on
+abbrev pub IsTriggerAfter : Listed → Trigger → Type 0
+IsTriggerAfter l trigger = StandsAfter (target_row l trigger.definition.target) trigger.rowid
+
+-- Each row of the schema table stands after that of what it belongs to: rows are read by their rowids, and what an index or a trigger is on
+-- has to be known then.
+pub record AreAfter (l : Listed) : Type 0 where
+  pub indexes : AllByRecursion AreIndexesAfter l.tables
+  pub triggers : AllByRecursion (IsTriggerAfter l) l.triggers

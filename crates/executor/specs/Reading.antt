@@ -1,5 +1,5 @@
 -- What a query answers (SQL As Understood By SQLite, "SELECT").
-use Rattle.std.specs.Prelude.{◌≡◌, ◌⊎◌, ◌≤◌, ◌<◌, ℕ, true, false, List, [], ◌∷◌, filter, length, map, Contains, MatchResult, Option, Some, None, Result, Ok, Err, option_and_then, slice_get, slice_set}
+use Rattle.std.specs.Prelude.{◌≡◌, ◌⊎◌, ◌≤◌, ◌<◌, ◌-◌, ℕ, true, false, List, [], ◌∷◌, filter, length, map, Contains, MatchResult, Option, Some, None, Result, Ok, Err, option_and_then, slice_get, slice_set}
 use Rattle.std.specs.List.{AllByRecursion}
 use Rattle.sqlval.specs.Faults.{IsOutside}
 use Rattle.sqlval.specs.Refusals.{Answer, ◌then◌, all_answers, refusal_of}
@@ -27,7 +27,7 @@ use Rattle.query_plan.specs.declared.searching.Search.{Search}
 use Rattle.query_bind.specs.Named.{ArePlaced, IsPlaced}
 use Rattle.query_bind.specs.declared.querying.BoundReading.{BoundReading}
 use Rattle.query_answer.specs.Nesting.{Named, beside_rows}
-use Rattle.query_answer.specs.Parts.{is_row_by_row}
+use Rattle.query_answer.specs.Parts.{GivesInOrder, is_row_by_row}
 use Rattle.query_answer.specs.Searches.{IsScannedAt, IsSearchAt}
 use Rattle.query_answer.specs.Shown.{ShowsPlaces}
 use Rattle.row_scan.specs.Rows.{TableRow}
@@ -174,11 +174,28 @@ pub record IsStreamedView (l : Listed) (room : ℕ) (bound : BoundReading) (tabl
   pub is : source_view l.views bound.reading.sources 0 ≡ Some view
   pub shows : ShowsTable l view table places
 
--- What a call answered, seen by `view`, is what a query comes to over what is shown of the rows of its only source, where its tree has some; or one
--- of its refusals.
-abbrev pub Streams : {X : Type 0} → (X → List (List Value)) → PageMap → ℕ → Reading → BoundSource → Option (List Place) → Result X Fault → Type 0
-Streams view pages size reading table shown result = (rows : List TableRow) → AreWhole size pages → HasRows pages size table.root table.shape rows
-    → AnswersOrFails view (rows_over reading [] (beside_rows reading.sources (map (shown_source shown) rows ∷ []))) result
+-- What a call answered, seen by `view`, is what comes of what is shown of the rows of a tree, where that has some; or one of its refusals.
+abbrev pub Streams : {X : Type 0} → (X → List (List Value)) → (List Row → Answer (List (List Value))) → PageMap → ℕ → BoundSource → Option (List Place) → Result X Fault → Type 0
+Streams view over pages size table shown result = (rows : List TableRow) → AreWhole size pages → HasRows pages size table.root table.shape rows
+    → AnswersOrFails view (over (map (shown_source shown) rows)) result
+
+-- A view's query gives each row by itself, and is streamed: its only source is a table that stands here, or a view that shows values of one at these places.
+pub record SeesTable (l : Listed) (room : ℕ) (view : View) (reading : Reading) (table : BoundSource) (places : Option (List Place)) : Type 0 where
+  pub bound : BoundReading
+  pub is : bound.reading ≡ reading
+  pub named : (rows_at : ℕ → List TableRow) (db : Database) → Lists rows_at l db → resolve_query (look_up db) [] view.definition.query ≡ Meant reading []
+  pub placed : ArePlaced l bound.reading.sources bound.origins
+  pub in_order : GivesInOrder reading
+  pub over : (IsStreamed l.tables bound table × (places ≡ None)) ⊎ ((shown : List Place) × (places ≡ Some shown) × IsStreamedView l room bound table shown)
+
+-- the query is row by row, and its only source is a view whose query is streamed so; and there is room for a view
+pub record IsSeenView (l : Listed) (room : ℕ) (bound : BoundReading) (reading : Reading) (table : BoundSource) (places : Option (List Place)) : Type 0 where
+  pub some_room : 0 < room
+  pub only : bound.origins ≡ the_view ∷ []
+  pub row_by_row : is_row_by_row bound.reading ≡ true
+  pub view : View
+  pub is : source_view l.views bound.reading.sources 0 ≡ Some view
+  pub sees : SeesTable l (room - 1) view reading table places
 
 -- what a query comes to, with room for so many views one within another
 abbrev pub answer_within : ℕ → Database → Reading → Answer (List (List Value))

@@ -8,11 +8,12 @@ ghost use Rattle.sql_syntax.specs.declared.create.NewObject.TheVariants as objec
 ghost use Rattle.sql_syntax.specs.declared.statement.Statement.TheVariants as statement;
 ghost use Rattle.catalog.specs.Listed.{is_name_of, listed_in, table_named, tables_of};
 ghost use Rattle.catalog.specs.declared.tables.Table.{Table as Listed};
+ghost use Rattle.query_names.specs.Bound.{AreOnce};
 ghost use Rattle.query_names.specs.Creating.{IsCreateRefusal};
 ghost use Rattle.db_pages.specs.Schema.{IsCreateOf, IsTableOf, schema_row};
 ghost use Rattle.executor.specs.Changing.{MakesChange};
 ghost use Rattle.executor.specs.Holding.{ListsIndex, ListsKeys, key_index};
-ghost use Rattle.executor.specs.Listing.{AddsRow, IsNewTable};
+ghost use Rattle.executor.specs.Listing.{AddsRow, AreAfter, IsNewTable};
 
 use catalog::{
     Catalog, Index, IndexColumn, Table, indexes_come_and_go, is_reserved, key_copy,
@@ -134,8 +135,16 @@ pub(crate) fn add_treeless_row<P: WritePages>(
     add_row(alloc, pages, rowid, &values)
 }
 
+/// The rowid of a table's row in the schema table.
+pub(crate) fn row_of(owner: &Table) -> i64
+    ensures { result ≡ owner.now.rowid }
+{
+    owner.rowid
+}
+
 /// Lists an index with its table: its row in the schema table, of this name and text, and a tree with the entries of the table's rows. Answers the
-/// catalog with it. (What `add_index` refuses; `TooLong` if no record can hold its row. Then some pages may have changed.)
+/// catalog with it. (`RowidFull` if no rowid after the table's is free; what `add_index` refuses; `TooLong` if no record can hold its row. Then
+/// some pages may have changed.)
 fn list_index<P: WritePages>(
     alloc: Global,
     pages: &mut P,
@@ -149,6 +158,8 @@ fn list_index<P: WritePages>(
         → ListsIndex (P.Pages.map pages.old) (P.Pages.map pages.new)
         (P.Pages.limits (P.Pages.below pages.old)).page (listed_in catalog.now) table.now index name.now
         (option_map (λ text. text.now) sql.entry) result }
+    ensures after { IfOk result (λ next. table_named table.now.name (tables_of catalog.now) ≡ Some table.now
+        → AreAfter (listed_in catalog.now) → AreAfter (listed_in next)) }
     ensures kept { P.Pages.below pages.new ≡ P.Pages.below pages.old }
     ensures causes { Causes result (P.Pages.failures pages.old) (P.Pages.failures pages.new)
         (P.Pages.count pages.new ≡ (P.Pages.limits (P.Pages.below pages.new)).most) }
@@ -156,7 +167,7 @@ fn list_index<P: WritePages>(
     indexes_come_and_go();
     trees_give_way();
     table_trees_stand();
-    let rowid = catalog.unused_rowid(alloc)?;
+    let rowid = catalog.unused_after(alloc, row_of(table))?;
     index.rowid = rowid;
     index.root = add_index(
         alloc,
@@ -204,6 +215,7 @@ fn list_keys<P: WritePages>(
     ensures listed { IsTrue (P.Pages.tells (P.Pages.below pages.old))
         → ListsKeys (P.Pages.map pages.old) (P.Pages.map pages.new)
         (P.Pages.limits (P.Pages.below pages.old)).page (listed_in catalog) name.now result }
+    ensures after { IfOk result (λ next. AreAfter (listed_in catalog) → AreAfter (listed_in next)) }
     ensures kept { P.Pages.below pages.new ≡ P.Pages.below pages.old }
     ensures causes { Causes result (P.Pages.failures pages.old) (P.Pages.failures pages.new)
         (P.Pages.count pages.new ≡ (P.Pages.limits (P.Pages.below pages.new)).most) }
@@ -225,7 +237,8 @@ fn list_keys<P: WritePages>(
 }
 
 /// Makes a table: its row in the schema table, and a tree without rows. Answers the catalog with it. (`Misuse(ReservedName)`, `Exists`, and
-/// what `bind_columns` and `bind_checks` refuse; `TooLong` if no record can hold its row. Then some pages may have changed.)
+/// what `bind_columns` and `bind_checks` refuse; `TooLong` if no record can hold its row; what `list_keys` refuses. Then some pages may have
+/// changed.)
 pub fn create_table<P: WritePages>(
     alloc: Global,
     pages: &mut P,
@@ -238,6 +251,7 @@ pub fn create_table<P: WritePages>(
         → MakesChange listed_in (statement.Create
         (record { sql = sql.now; object = object.Table definition.now })) (P.Pages.map pages.old)
         (P.Pages.map pages.new) (P.Pages.limits (P.Pages.below pages.old)).page (listed_in catalog.now) result }
+    ensures after { IfOk result (λ next. AreAfter (listed_in catalog.now) → AreAfter (listed_in next)) }
     ensures kept { P.Pages.below pages.new ≡ P.Pages.below pages.old }
     ensures causes { Causes result (P.Pages.failures pages.old) (P.Pages.failures pages.new)
         (P.Pages.count pages.new ≡ (P.Pages.limits (P.Pages.below pages.new)).most) }
@@ -259,8 +273,8 @@ pub fn create_table<P: WritePages>(
 }
 
 /// Makes an index: its row in the schema table, and a tree with the entries of its table's rows. Answers the catalog with it. (What
-/// `bind_index` and `add_index` refuse, `Unique` for two rows of one key among it; `TooLong` if no record can hold its row. Then some pages
-/// may have changed.)
+/// `bind_index` and `add_index` refuse, `Unique` for two rows of one key among it; `RowidFull` if no rowid after its table's is free; `TooLong` if
+/// no record can hold its row. Then some pages may have changed.)
 pub fn create_index<P: WritePages>(
     alloc: Global,
     pages: &mut P,
@@ -273,6 +287,8 @@ pub fn create_index<P: WritePages>(
         → MakesChange listed_in (statement.Create
         (record { sql = sql.now; object = object.Index definition.now })) (P.Pages.map pages.old)
         (P.Pages.map pages.new) (P.Pages.limits (P.Pages.below pages.old)).page (listed_in catalog.now) result }
+    ensures after { IfOk result (λ next. AreOnce (tables_of catalog.now)
+        → AreAfter (listed_in catalog.now) → AreAfter (listed_in next)) }
     ensures kept { P.Pages.below pages.new ≡ P.Pages.below pages.old }
     ensures causes { Causes result (P.Pages.failures pages.old) (P.Pages.failures pages.new)
         (P.Pages.count pages.new ≡ (P.Pages.limits (P.Pages.below pages.new)).most) }

@@ -9,14 +9,15 @@ ghost use Rattle.query_names.specs.Views.{plain_rows};
 ghost use Rattle.query_names.specs.declared.queries.BoundSource.{BoundSource as Place};
 ghost use Rattle.query_names.specs.declared.queries.Origin.TheVariants as source;
 ghost use Rattle.query_answer.specs.Answers.{HaveWidth};
-ghost use Rattle.query_answer.specs.Parts.{is_row_by_row as row_by_row};
+ghost use Rattle.query_answer.specs.Parts.{GivesInOrder, answer_on, is_row_by_row as row_by_row};
+ghost use Rattle.query_view.specs.Seen.{answer_through};
 ghost use Rattle.row_scan.specs.Rows.{values_of};
 ghost use Rattle.row_scan.specs.Sources.{places_shown};
 ghost use Rattle.executor.specs.Reading.{AnswersAsked, AnswersBound, AnswersRead, IsLoaded, IsScanned, IsSearched, IsStreamed, LoadsNeeded, LoadsSought, LoadsSource, LoadsSources, ReadsView, Streams, source_table};
 ghost use Rattle.db_pages.specs.Stored.{Stores};
 ghost use Rattle.executor.specs.Works.{read_on};
 
-use crate::shown::{only_tree, shown_table, streamed_view, view_of};
+use crate::shown::{only_tree, seen_view, shown_table, streamed_view, view_of};
 use catalog::{Catalog, Table, View, listed_tables_are_found};
 use pages::Pages;
 use query_answer::{
@@ -27,6 +28,7 @@ use query_bind::{BoundReading, bind_reading};
 use query_filter::Filter;
 use query_names::{BoundSource, Origin, Reading, sources_are_known, views_are_known};
 use query_terms::{Place, SourceRow};
+use query_view::{SeenRows, finish_seen, see_rows};
 use row_scan::{Rows, next_shown_rows, rows_are_held, shown_rows, source_rows};
 use row_search::found_rows;
 use sql_syntax::Query;
@@ -87,8 +89,8 @@ fn streamed_rows<P: Pages>(
 ) -> R<Rows>
     requires { row_by_row reading.now ≡ true }
     ensures answered { IsTrue (P.Pages.tells (P.Pages.below pages.old))
-        → Streams (λ rows. map values_of rows.items) (P.Pages.map pages.old)
-        (P.Pages.limits (P.Pages.below pages.old)).page reading.now table (places_shown shown.entry) result }
+        → Streams (λ rows. map values_of rows.items) (answer_on reading.now) (P.Pages.map pages.old)
+        (P.Pages.limits (P.Pages.below pages.old)).page table (places_shown shown.entry) result }
     ensures wide { IfOk result (λ rows. HaveWidth (length reading.now.results) (map values_of rows.items)) }
     ensures stays { Stays P.Pages.below P.Pages.map P.Pages.count P.Pages.failures result pages.old pages.new }
 {
@@ -114,6 +116,46 @@ fn streamed_rows<P: Pages>(
     finish(alloc, reading, found)
 }
 
+/// The rows of a query over a view whose own query gives each row by itself, where both are row by row: the tree of the table under the view is read leaf
+/// by leaf, and no more of it, or of the view's rows, is held than one leaf makes. (What `next_shown_rows`, `see_rows` and `finish_seen` refuse.)
+fn seen_rows<P: Pages>(
+    alloc: Global,
+    pages: &mut P,
+    reading: &Reading,
+    view: &Reading,
+    table: BoundSource,
+    shown: Option<&Rc<Vec<Place>>>,
+) -> R<Rows>
+    requires row_by_row { row_by_row reading.now ≡ true }
+    requires in_order { GivesInOrder view.now }
+    ensures answered { IsTrue (P.Pages.tells (P.Pages.below pages.old))
+        → Streams (λ rows. map values_of rows.items) (answer_through view.now reading.now) (P.Pages.map pages.old)
+        (P.Pages.limits (P.Pages.below pages.old)).page table (places_shown shown.entry) result }
+    ensures wide { IfOk result (λ rows. HaveWidth (length reading.now.results) (map values_of rows.items)) }
+    ensures stays { Stays P.Pages.below P.Pages.map P.Pages.count P.Pages.failures result pages.old pages.new }
+{
+    rows_are_held();
+    let filter = Filter::new(alloc, &reading.filter)?;
+    let inner = Filter::new(alloc, &view.filter)?;
+    let mut seen = SeenRows::new(alloc, reading)?;
+    let mut rows = Many::new(alloc);
+    let mut batch = Batch::new(alloc);
+    let mut cursor = Cursor::new(table.root);
+    'leaves: while cursor.next.is_some() {
+        rows = next_shown_rows(
+            alloc,
+            pages,
+            &mut cursor,
+            &mut batch,
+            table.shape.own,
+            shown,
+            rows,
+        )?;
+        see_rows(alloc, view, &inner, reading, &filter, &rows, &mut seen)?;
+    }
+    finish_seen(alloc, reading, seen)
+}
+
 /// Whether a query seeks something of a source. (`Memory`.)
 fn seeks(alloc: Global, catalog: &Catalog, reading: &Reading, source: usize) -> R<bool>
     ensures seen { IfOk result (λ seeks. seeks ≡ true
@@ -129,7 +171,11 @@ fn seeks(alloc: Global, catalog: &Catalog, reading: &Reading, source: usize) -> 
 }
 
 /// The only source of a query that is row by row, where it is a table of which the query seeks nothing. (`Memory`.)
-fn streamed_source(alloc: Global, catalog: &Catalog, bound: &BoundReading) -> R<Option<BoundSource>>
+pub(crate) fn streamed_source(
+    alloc: Global,
+    catalog: &Catalog,
+    bound: &BoundReading,
+) -> R<Option<BoundSource>>
     ensures is { IfOk result (λ found. IfSome found (IsStreamed (tables_of catalog.now) bound.now)) }
     ensures only { IfOk result (λ found. IfNone found (IsLoaded (tables_of catalog.now) bound.now)) }
     ensures refused { IfErr result (λ fault. fault ≡ Fault.Memory) }
@@ -303,15 +349,14 @@ fn rows_within<P: Pages>(
     if let Some(place) = streamed_source(alloc, catalog, bound)? {
         return streamed_rows(alloc, pages, &bound.reading, place, None);
     }
-    match streamed_view(alloc, catalog, room, bound)? {
-        Some(shown) => {
-            streamed_rows(
-                alloc,
-                pages,
-                &bound.reading,
-                shown.table,
-                Some(&shown.places),
-            )
+    if let Some(shown) = streamed_view(alloc, catalog, room, bound)? {
+        let places = Some(&shown.places);
+        return streamed_rows(alloc, pages, &bound.reading, shown.table, places);
+    }
+    match seen_view(alloc, catalog, room, bound)? {
+        Some(seen) => {
+            let places = seen.places.as_ref();
+            seen_rows(alloc, pages, &bound.reading, &seen.view, seen.table, places)
         }
         None => loaded_rows(alloc, pages, catalog, room, bound),
     }

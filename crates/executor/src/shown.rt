@@ -4,10 +4,11 @@ ghost use Rattle.std.specs.Prelude.{◌≡◌, ◌∷◌, [], IfErr, IfNone, IfO
 ghost use Rattle.catalog.specs.Listed.{listed_in, views_of};
 ghost use Rattle.query_names.specs.declared.queries.BoundSource.{BoundSource as Tree};
 ghost use Rattle.query_names.specs.declared.queries.Origin.TheVariants as source;
-ghost use Rattle.executor.specs.Reading.{IsStreamedView, ShowsTable, source_view};
+ghost use Rattle.executor.specs.Reading.{IsSeenView, IsStreamedView, SeesTable, ShowsTable, source_view};
 
+use crate::reading::streamed_source;
 use catalog::{Catalog, View};
-use query_answer::{is_row_by_row, shown_places};
+use query_answer::{gives_in_order, is_row_by_row, shown_places};
 use query_bind::{BoundReading, bind_reading};
 use query_names::{BoundSource, Origin, Reading};
 use query_terms::Place;
@@ -96,6 +97,72 @@ pub(crate) fn streamed_view(
     }
     match view_of(catalog, &bound.reading, 0) {
         Some(view) => shown_table(alloc, catalog, view),
+        None => Ok(None),
+    }
+}
+
+/// A table, or what is shown of its rows, as the source of a view's query.
+#[derive(Drop)]
+pub(crate) struct SeenTable {
+    pub view: Reading,
+    pub table: BoundSource,
+    pub places: Option<Rc<Vec<Place>>>,
+}
+
+/// The table that a view's query goes over, where it gives each row by itself: a table of which it seeks nothing, or a view that shows values of one's
+/// rows. None of another view, and where it isn't looked up. (`Memory`.)
+fn seen_table(alloc: Global, catalog: &Catalog, room: usize, view: &View) -> R<Option<SeenTable>>
+    ensures sees { IfOk result (λ found. IfSome found (λ seen. SeesTable (listed_in catalog.now) room view.now
+        seen.view seen.table (option_map (λ places. places.value.items) seen.places))) }
+    ensures refused { IfErr result (λ fault. fault ≡ Fault.Memory) }
+{
+    let Ok(bound) = bind_reading(alloc, catalog, &view.definition.query) else {
+        return Ok(None);
+    };
+    if !gives_in_order(&bound.reading) {
+        return Ok(None);
+    }
+    if let Some(table) = streamed_source(alloc, catalog, &bound)? {
+        let view = bound.reading;
+        let places = None;
+        return Ok(Some(SeenTable {
+            view,
+            table,
+            places,
+        }));
+    }
+    match streamed_view(alloc, catalog, room, &bound)? {
+        Some(shown) => {
+            let view = bound.reading;
+            let places = Some(shown.places);
+            let table = shown.table;
+            Ok(Some(SeenTable {
+                view,
+                table,
+                places,
+            }))
+        }
+        None => Ok(None),
+    }
+}
+
+/// What the only source of a query that is row by row goes over, where that is a view whose query gives each row by itself. None where no view may
+/// stand within the query. (`Memory`.)
+pub(crate) fn seen_view(
+    alloc: Global,
+    catalog: &Catalog,
+    room: usize,
+    bound: &BoundReading,
+) -> R<Option<SeenTable>>
+    ensures is { IfOk result (λ found. IfSome found (λ seen. IsSeenView (listed_in catalog.now) room bound.now
+        seen.view seen.table (option_map (λ places. places.value.items) seen.places))) }
+    ensures refused { IfErr result (λ fault. fault ≡ Fault.Memory) }
+{
+    if room == 0 || !is_only_view(bound.origins.as_slice()) || !is_row_by_row(&bound.reading) {
+        return Ok(None);
+    }
+    match view_of(catalog, &bound.reading, 0) {
+        Some(view) => seen_table(alloc, catalog, room - 1, view),
         None => Ok(None),
     }
 }

@@ -30,11 +30,12 @@ pub record MayMeetWide (s : Statement) (db : Database) (f : Fault) : Type 0 wher
   pub has : object db name ≡ Some (AnIndex index)
   pub wide : is_wide (length index.columns) ≡ true
 
--- something is too long for a record, whatever rows there are
+-- something is too long for a record, whatever rows there are, or no rowid is free for a row of the schema table
 abbrev pub IsBeyond : Statement → Database → Fault → Type 0
 IsBeyond s db f = IsTooMuch s db f ⊎ MayMeetWide s db f
 
--- Why a statement makes nothing: out of memory or of pages, by a disk, as its work is refused, or because something is too long for a record.
+-- Why a statement makes nothing: out of memory or of pages, by a disk, as its work is refused, or because something is too long for a record or no
+-- rowid is free.
 abbrev pub IsRefusedStatement : Statement → Database → Fault → Type 0
 IsRefusedStatement s db f = IsOutsideOrFull f ⊎ (RefusesWith (change_made s db) (refusal_of f) ⊎ IsBeyond s db f)
 

@@ -166,16 +166,21 @@ pub fn change<P: WritePages>(
     ensures causes { Causes result (P.Pages.failures pages.old) (P.Pages.failures pages.new)
         (P.Pages.count pages.new ≡ (P.Pages.limits (P.Pages.below pages.new)).most) }
 {
-    let next = match write {
+    match write {
         Write::Change(rows) => {
             change_rows(alloc, pages, catalog, rows)?;
-            return Ok(None);
+            Ok(None)
         }
-        Write::CreateTable(sql, table) => create_table(alloc, pages, catalog, sql, table)?,
-        Write::CreateIndex(sql, index) => create_index(alloc, pages, catalog, sql, index)?,
-        Write::CreateView(sql, view) => create_view(alloc, pages, catalog, sql, view)?,
-        Write::CreateTrigger(sql, trigger) => create_trigger(alloc, pages, catalog, sql, trigger)?,
-        Write::Drop(kind, name) => drop_object(alloc, pages, catalog, kind, name)?,
-    };
-    Ok(Some(next))
+        Write::CreateTable(sql, table) => Ok(Some(create_table(
+            alloc, pages, catalog, sql, table,
+        )?)),
+        Write::CreateIndex(sql, index) => Ok(Some(create_index(
+            alloc, pages, catalog, sql, index,
+        )?)),
+        Write::CreateView(sql, view) => Ok(Some(create_view(alloc, pages, catalog, sql, view)?)),
+        Write::CreateTrigger(sql, trigger) => Ok(Some(create_trigger(
+            alloc, pages, catalog, sql, trigger,
+        )?)),
+        Write::Drop(kind, name) => Ok(Some(drop_object(alloc, pages, catalog, kind, name)?)),
+    }
 }

@@ -1,6 +1,6 @@
 //! Numbers and the header on a page, as bytes.
 
-ghost use Rattle.std.specs.Prelude.{◌≡◌, ◌≤◌, ◌<◌, ◌^◌, ◌++◌, ◌+◌, ◌/◌, [], ◌∷◌, ℕ, List, length, Some, IfSome, IfOk, IfErr, true};
+ghost use Rattle.std.specs.Prelude.{◌≡◌, ◌≤◌, ◌<◌, ◌^◌, ◌++◌, ◌+◌, ◌/◌, ◌⊎◌, [], ◌∷◌, ℕ, List, length, Some, IfSome, IfOk, IfErr, false, true};
 ghost use Rattle.std.specs.Int.{w32, to_be_bytes};
 ghost use Rattle.sqlval.specs.declared.fault.Fault.TheVariants.{Memory};
 ghost use Rattle.sqlval.specs.PageSizes.{IsPageSize};
@@ -85,6 +85,7 @@ pub fn take_last(page: &mut [u8], len: u32) -> Option<u32>
 pub fn has_room(len: u32, size: usize) -> bool
     ensures room { result ≡ true → len + 8 < size / 4 }
     ensures short { result ≡ true → len + 1 < 2 ^ 32 }
+    ensures full { result ≡ false → (2 ^ 32 ≤ len + 1) ⊎ (size / 4 ≤ len + 8) }
 {
     len < u32::MAX && len as usize + 8 < size / 4
 }

@@ -114,7 +114,8 @@ impl Writer {
     /// Whether the image that a changed page had at the newest mark is saved, or there is no mark.
     pub(crate) fn is_saved(&self, index: usize) -> bool
         requires { index < length (changes_of self.now) }
-        ensures { IsTrue result → IsSaved self.now index }
+        ensures found { IsTrue result → IsSaved self.now index }
+        ensures only { IsSaved self.now index → IsTrue result }
     {
         self.stamps[index] >= newest_stamp(&self.marks)
     }

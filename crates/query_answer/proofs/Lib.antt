@@ -5,6 +5,7 @@ pub mod Flows
 pub mod Given
 pub mod GroupRows
 pub mod InOrder
+pub mod InTurn
 pub mod Items
 pub mod Kept
 pub mod KeyOrders

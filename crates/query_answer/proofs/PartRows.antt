@@ -144,7 +144,7 @@ of_refused : (q : Reading) (a : Answer (List Found)) (f : Fault) → IsRefusedBy
 of_refused q a f (inl m) = inl m
 of_refused q a f (inr e) = inr (ap (all_of q) e)
 
-part_is : (q : Reading) (s : Named) (rows : List Row) → q.sources ≡ s ∷ [] → is_left s.1 ≡ false → part_of q rows ≡ all_of q (collected (of_rows q s.1 rows))
+pub part_is : (q : Reading) (s : Named) (rows : List Row) → q.sources ≡ s ∷ [] → is_left s.1 ≡ false → part_of q rows ≡ all_of q (collected (of_rows q s.1 rows))
 part_is q s rows same e = ap (all_of q) (rows_kept q s rows same e)
 
 pub nothing_kept : (q : Reading) → is_row_by_row q ≡ true → part_of q [] ≡ Ok (kept_of q [])
@@ -204,7 +204,7 @@ module _ (q : Reading) (c : Condition) (rows : List Row) (before : List Found) w
 
 -- ---- parts
 
-rows_behind : (q : Reading) (c : Condition) (rows more : List Row) → of_rows q c (rows ++ more) ≡ followed_by (of_rows q c rows) (of_rows q c more)
+pub rows_behind : (q : Reading) (c : Condition) (rows more : List Row) → of_rows q c (rows ++ more) ≡ followed_by (of_rows q c rows) (of_rows q c more)
 rows_behind q c [] more = refl
 rows_behind q c (r ∷ rs) more =
     ap (followed_by (of_row q c (r ∷ []))) (rows_behind q c rs more) ∙ sym (followed_twice (of_row q c (r ∷ [])) (of_rows q c rs) (of_rows q c more))
@@ -214,10 +214,10 @@ none_onto : {A : Type 0} (a : Answer (List A)) → a ≡ (a then λ ys. Ok ([] +
 none_onto (Ok ys) = refl
 none_onto (Err r) = refl
 
-behind : {A : Type 0} (f g : Flow A) (xs : List A) → collected f ≡ Ok xs → collected (followed_by f g) ≡ onto xs g
+pub behind : {A : Type 0} (f g : Flow A) (xs : List A) → collected f ≡ Ok xs → collected (followed_by f g) ≡ onto xs g
 behind f g xs e = none_onto (collected (followed_by f g)) ∙ behind_found [] xs f g (sym (none_onto (collected f)) ∙ e)
 
-refused_behind : {A : Type 0} (f g : Flow A) (r : Refusal) → collected f ≡ Err r → collected (followed_by f g) ≡ Err r
+pub refused_behind : {A : Type 0} (f g : Flow A) (r : Refusal) → collected f ≡ Err r → collected (followed_by f g) ≡ Err r
 refused_behind Finished g r e = absurd cc
 refused_behind (Refused x) g r e = e
 refused_behind {A} (Next x f) g r e = ap (λ (a : Answer (List A)). a then λ xs. Ok (x ∷ xs)) (refused_behind f g r (tail (collected f) e))

@@ -17,7 +17,7 @@ use Rattle.query_answer.specs.Nesting.{beside_rows}
 use Rattle.query_answer.specs.Shown.{AnswersAll, ShowsPlaces, shown_of}
 
 -- rows of which none is before another stay as they stand
-equal_stay : {A : Type 0} (xs : List A) → sorted (λ (x y : A). Equal) xs ≡ xs
+pub equal_stay : {A : Type 0} (xs : List A) → sorted (λ (x y : A). Equal) xs ≡ xs
 equal_stay [] = refl
 equal_stay {A} (x ∷ xs) = ap (placed (λ (x y : A). Equal) x) (equal_stay xs) ∙ first xs
   where
@@ -34,7 +34,7 @@ one_by_one : (rows : List Row) → combined ((Always, rows) ∷ []) [] ≡ flow_
 one_by_one [] = refl
 one_by_one (r ∷ rows) = ap (Next (r ∷ [])) (one_by_one rows)
 
-otherwise : {A : Type 0} (b : Bool) (x y : A) → b ≡ false → (if b then x else y) ≡ y
+pub otherwise : {A : Type 0} (b : Bool) (x y : A) → b ≡ false → (if b then x else y) ≡ y
 otherwise b x y e = ap (λ b. if b then x else y) e
 
 module _ (q : Reading) (places : List Place) (is : AnswersAll q) (each : (row : Row) → values (env_of (row ∷ [])) q.results ≡ Ok (map (at_row (Some row)) places)) where

@@ -1,8 +1,9 @@
 -- A query whose only source's rows come part after part.
-use Rattle.std.specs.Prelude.{◌≡◌, Bool, true, false, not, ◌&&◌, ◌||◌, if◌then◌else◌, List, [], ◌∷◌, ◌++◌, length, map, ◌==◌, Ok, Err}
+use Rattle.std.specs.Prelude.{◌≡◌, Bool, true, false, not, ◌&&◌, ◌||◌, if◌then◌else◌, List, [], ◌∷◌, ◌++◌, length, map, None, ◌==◌, Ok, Err}
 use Rattle.std.specs.List.{list_all}
 use Rattle.sqlval.specs.Flow.{Flow, Finished, flow_of, for_each}
 use Rattle.sqlval.specs.Refusals.{Answer, Refusal, ◌then◌}
+use Rattle.sqlval.specs.declared.value.Value.{Value}
 use Rattle.query_terms.specs.Values.{Row}
 use Rattle.query_names.specs.Readings.{Sortable, rows_over}
 use Rattle.query_names.specs.declared.reading.Condition.{Condition}
@@ -48,3 +49,28 @@ of_rows q c rows = for_each (λ r. of_row q c (r ∷ [])) (flow_of rows)
 abbrev pub StayRefused : Type 0
 StayRefused = (q : Reading) (rows more : List Row) (r : Refusal) → is_row_by_row q ≡ true → part_of q rows ≡ Err r
     → rows_over q [] (beside_rows q.sources ((rows ++ more) ∷ [])) ≡ Err r
+
+-- ---- queries that give each row by itself
+
+-- The query gives a row for each row of its only source that WHERE keeps, in their order: no groups, DISTINCT, ORDER BY or LIMIT.
+pub record GivesInOrder (q : Reading) : Type 0 where
+  pub ungrouped : q.is_grouped ≡ false
+  pub with_twins : q.distinct ≡ false
+  pub unordered : q.order ≡ []
+  pub unlimited : q.limit ≡ None
+  pub alone : is_alone q.sources ≡ true
+
+-- what a query answers over these rows of its only source
+abbrev pub answer_on : Reading → List Row → Answer (List (List Value))
+answer_on q rows = rows_over q [] (beside_rows q.sources (rows ∷ []))
+
+-- the results of what was kept
+abbrev pub results_in : Kept → List (List Value)
+results_in kept = map (λ s. s.0) kept.0
+
+-- What such a query answers over rows is what it keeps of them; what it answers over some rows stands before what it answers over more.
+pub record FollowOneAnother : Type 0 where
+  pub none : (q : Reading) → GivesInOrder q → answer_on q [] ≡ Ok []
+  pub kept : (q : Reading) (rows : List Row) → GivesInOrder q → (is_row_by_row q ≡ true) × (answer_on q rows ≡ (part_of q rows then λ kept. Ok (results_in kept)))
+  pub both : (q : Reading) (rows more : List Row) → GivesInOrder q
+      → answer_on q (rows ++ more) ≡ (answer_on q rows then λ xs. answer_on q more then λ ys. Ok (xs ++ ys))

@@ -18,7 +18,10 @@ ghost use Rattle.query_answer.specs.Answers.{LoadsBeside};
 ghost use Rattle.query_answer.specs.Searches.{SearchesAsScans};
 
 pub use answering::{answer, finish};
-pub use parts::{GivenRows, give_rows, is_row_by_row, rows_are_given_in_parts};
+pub use parts::{
+    GivenRows, give_rows, gives_in_order, is_row_by_row, parts_follow_one_another,
+    rows_are_given_in_parts, rows_of_part,
+};
 use query_plan::other_rows_fail;
 pub use searches::search_at;
 pub use shown::shown_places;

@@ -101,7 +101,8 @@ module _ (m : Machine) (n : ℕ) (s : Statement) (running : m.failed ≡ false) 
   unmade_plain db r made = subst IsPlain (sym made.1) (by_fault made.0 made.2)
     where
       by_fault : (f : Fault) → IsBeyond s db f → IsPlain (refusal_of f)
-      by_fault f (inl much) = subst (λ (x : Fault). IsPlain (refusal_of x)) (sym much.is) (record { answer = refl; left = λ m c. refl })
+      by_fault f (inl (inl long)) = subst (λ (x : Fault). IsPlain (refusal_of x)) (sym long.is) (record { answer = refl; left = λ m c. refl })
+      by_fault f (inl (inr none)) = subst (λ (x : Fault). IsPlain (refusal_of x)) (sym none.is) (record { answer = refl; left = λ m c. refl })
       by_fault f (inr wide) = subst (λ (x : Fault). IsPlain (refusal_of x)) (sym wide.is) (record { answer = refl; left = λ m c. refl })
 
   pub refused_step : (db : Database) → database_of m (connection m n) ≡ db → (f : Fault) → IsErrorCause (CannotStore s db) w f → Answers (refusal_of f)

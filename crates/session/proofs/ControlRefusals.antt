@@ -104,7 +104,8 @@ made_never : (s : Statement) (db : Database) (t : List ℕ) (r : Refusal) → Re
 made_never s db t r is made = false≢true (sym (ap is_raise made.1 ∙ by_fault made.0 made.2) ∙ sym (ap raise_of is))
   where
     by_fault : (f : Fault) → IsBeyond s db f → is_raise (refusal_of f) ≡ false
-    by_fault f (inl much) = ap (λ (x : Fault). is_raise (refusal_of x)) much.is
+    by_fault f (inl (inl long)) = ap (λ (x : Fault). is_raise (refusal_of x)) long.is
+    by_fault f (inl (inr none)) = ap (λ (x : Fault). is_raise (refusal_of x)) none.is
     by_fault f (inr wide) = ap (λ (x : Fault). is_raise (refusal_of x)) wide.is
 
 pub control_never_raises : (m : Machine) (c : ℕ) (s : Statement) (t : List ℕ) (new : Machine) → sort s ≡ Controlling → StepOrTooLong m c s (Refused (Raised t)) new → ⊥

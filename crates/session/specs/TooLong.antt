@@ -1,4 +1,5 @@
--- A step of an engine whose records have a greatest length (SQLite's "Database File Format", section 2.1).
+-- A step of an engine whose records have a greatest length, and whose schema table a greatest rowid (SQLite's "Database File Format", sections 2.1
+-- and 2.6).
 use Rattle.std.specs.Prelude.{◌≡◌, false, ◌⊎◌, ℕ}
 use Rattle.sqlval.specs.Refusals.{Refusal, refusal_of}
 use Rattle.sqlval.specs.declared.fault.Fault.{Fault}
@@ -14,12 +15,12 @@ database_of m (InTransactionOf b ss (Writes i db)) = db
 database_of m (InTransactionOf b ss (Reads i)) = committed m i
 database_of m _ = newest m
 
--- no record can hold a row of the schema table or an entry that the statement makes on the database
+-- no record can hold a row of the schema table or an entry that the statement makes on the database, or no rowid is free for such a row
 abbrev pub CannotStore : Statement → Database → Refusal → Type 0
 CannotStore s db r = (f : Fault) × (r ≡ refusal_of f) × IsBeyond s db f
 
--- A step; or, where no record can hold what the statement makes on what it sees, its refusal, after the engine's failure and the
--- connection's number.
+-- A step; or, where what the statement makes on what it sees can't be stored, its refusal, after the engine's failure and the connection's
+-- number.
 abbrev pub StepOrTooLong : Machine → ℕ → Statement → Reply → Machine → Type 0
 StepOrTooLong m c s reply new =
     Step m c s reply new

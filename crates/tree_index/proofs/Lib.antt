@@ -1,4 +1,5 @@
 pub mod EntryRows
+pub mod Neither
 pub mod Staying
 pub mod LastEntries
 mod Fillings

@@ -1,7 +1,9 @@
 //! The root of an index's tree that lost an entry.
 
-ghost use Rattle.std.specs.Prelude.{◌≡◌, [], IsTrue, IfSome};
+ghost use Rattle.std.specs.Prelude.{◌≡◌, [], length, IsTrue, IfSome};
 ghost use Rattle.pages.specs.Calls.{Causes};
+ghost use Rattle.tree_page.specs.Node.{Node, IsNode};
+ghost use Rattle.tree_page.specs.Reading.{count_of, last_of};
 ghost use Rattle.tree_index.specs.Flattening.{StoresTop};
 ghost use Rattle.tree_index.specs.Lowering.{IsLone, TakesOver};
 
@@ -17,6 +19,8 @@ use tree_store::put_node;
 /// The one child of packed pages that are one interior page without cells.
 fn lone_child(packed: &Packed) -> Option<u32>
     ensures lone { IfSome result (IsLone packed.now) }
+    ensures only { (node : Node) → IsNode packed.now.last.items 0 node
+        → length packed.now.pieces.items ≡ 0 → count_of node ≡ 0 → result ≡ last_of node }
 {
     let Ok(page) = TreePage::over(packed.last.as_slice(), 0) else {
         return None;

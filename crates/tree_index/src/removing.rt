@@ -1,6 +1,6 @@
 //! Taking an entry out of an index's tree.
 
-ghost use Rattle.std.specs.Prelude.{◌≡◌, ◌<◌, ◌≤◌, ◌+◌, length, IsTrue, IfOk};
+ghost use Rattle.std.specs.Prelude.{◌≡◌, ◌<◌, ◌≤◌, ◌+◌, ◌-◌, length, IsTrue, IfOk};
 ghost use Rattle.pages.specs.Calls.{Causes, Stays};
 ghost use Rattle.tree_page.specs.Node.{Node, IsNode};
 ghost use Rattle.tree_page.specs.Reading.{count_of};
@@ -125,6 +125,8 @@ fn is_bare(packed: &Packed) -> bool
     ensures alone { IsTrue result → length packed.now.pieces.items ≡ 0 }
     ensures empty { (node : Node) → IsNode packed.now.last.items 0 node → IsTrue result
         → count_of node ≡ 0 }
+    ensures only { (node : Node) → IsNode packed.now.last.items 0 node
+        → length packed.now.pieces.items ≡ 0 → count_of node ≡ 0 → IsTrue result }
 {
     let Ok(page) = TreePage::over(packed.last.as_slice(), 0) else {
         return false;
@@ -135,6 +137,8 @@ fn is_bare(packed: &Packed) -> bool
 /// The place itself, or if it is after all, the last one.
 fn place_within(place: usize, len: usize) -> usize
     ensures within { 1 ≤ len → result < len }
+    ensures same { place < len → result ≡ place }
+    ensures last { len ≤ place → result ≡ len - 1 }
 {
     if place < len {
         place

@@ -1,5 +1,6 @@
 pub mod WholeLeaf
 mod Refused
+pub mod Neither
 mod Rebuilding
 pub mod SinglePages
 pub mod SameRows

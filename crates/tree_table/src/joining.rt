@@ -143,6 +143,8 @@ fn is_bare(packed: &Packed) -> bool
     ensures alone { IsTrue result → length packed.now.pieces.items ≡ 0 }
     ensures empty { (node : Node) → IsNode packed.now.last.items 0 node → IsTrue result
         → count_of node ≡ 0 }
+    ensures only { (node : Node) → IsNode packed.now.last.items 0 node
+        → length packed.now.pieces.items ≡ 0 → count_of node ≡ 0 → IsTrue result }
 {
     let Ok(page) = TreePage::over(packed.last.as_slice(), 0) else {
         return false;

@@ -95,6 +95,7 @@ pub(crate) fn settle<P: WritePages>(alloc: Global, pages: &mut P, root: u32) -> 
 /// Whether an interior page has two children.
 fn are_two(parts: Parts) -> bool
     ensures two { result ≡ true → parts ≡ Parts.Children 2 }
+    ensures only { parts ≡ Parts.Children 2 → result ≡ true }
 {
     matches!(parts, Parts::Children(2))
 }
@@ -102,6 +103,7 @@ fn are_two(parts: Parts) -> bool
 /// Whether a leaf has no rows.
 fn is_bare(parts: Parts) -> bool
     ensures none { result ≡ true → parts ≡ Parts.Cells 0 }
+    ensures only { parts ≡ Parts.Cells 0 → result ≡ true }
 {
     matches!(parts, Parts::Cells(0))
 }

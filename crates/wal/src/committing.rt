@@ -34,6 +34,7 @@ pub fn sync_log<D: Disk>(log: &mut D) -> R<()>
 /// Truncates a log to a length and syncs it, unless it is clean or no longer than that.
 pub fn truncate_tail<D: Disk>(log: &mut D, end: u64, is_clean: bool) -> R<()>
     requires { IsTrue (D.tells log.old) → end ≤ length (D.file log.old).content }
+    ensures idle { IsTrue is_clean → log.new ≡ log.old }
     ensures cut { IsTrue (D.tells log.old) → OnOk result
         ((D.file log.new).content ≡ kept_at is_clean end (D.file log.old).content) }
     ensures synced { IsTrue (D.tells log.old) → IsSynced (D.file log.old)

@@ -1,11 +1,13 @@
 use Rattle.std.proofs.lemmas.Int.{to_z-of_z}
-use Rattle.std.proofs.Common.{rules, SFits, w64, ◌≡◌, ◌∙◌, refl, sym, subst, inl, codes, Ok, Err, Some, IsTrue, List, ◌∷◌}
+use Rattle.std.proofs.Common.{rules, SFits, w64, ◌≡◌, ◌∙◌, refl, sym, subst, inl, codes, false, Ok, Err, Some, IsTrue, List, ◌∷◌}
 use Rattle.sqlval.specs.declared.value.Value.{Value}
-use Rattle.catalog.specs.Listed.{listed_in}
+use Rattle.catalog.specs.Database.{Name}
+use Rattle.catalog.specs.Listed.{is_name_of, listed_in}
 use Rattle.catalog.specs.declared.tables.Table.{Table}
 use Rattle.db_pages.specs.Schema.{schema_row}
 use Rattle.executor.specs.Holding.{ListsKeys}
-use Rattle.executor.specs.Listing.{AddsRow, IsNewTable}
+use Rattle.executor.specs.Listing.{AddsRow, AreAfter, IsNewTable}
+use Rattle.executor.proofs.AfterRows.{ok_still, table_after}
 use Rattle.executor.proofs.Creations.{Laws, are_free, creates, handed_on, lists_keys, more, none_at, refused_definition, refused_keys, refused_row, schema_then, size_is, turned_result}
 use Rattle.executor.proofs.creating.create_table.Goals as goal
 
@@ -65,6 +67,19 @@ returns-in_err-add_row-clause-made g c told text db held =
     (subst (λ z. AddsRow mid new (pages.limits (pages.below c.new_tree.new.pages)).page z c.deref.result.now (Err f)) (to_z-of_z w64 rowid fits) (c.in_err-add_row.ensures.added told_then))) in
     handed_on _ _ c.from_residual-in_err-add_row.result f c.from_residual-in_err-add_row.ensures.1
     (refused_row laws old size l db held sql d t is mid root refl tree f (adds held.schema held.schema_used tree.now_free (schema_then laws old size l db held sql d t is mid root refl tree) none))
+
+pub returns-clause-after : goal.returns-clause-after
+returns-clause-after g c =
+    let l = listed_in c.args.catalog.now in
+    let d = c.args.definition.now in
+    let rowid = c.in_ok-rowid.rowid in
+    let t : Table = record c.in_ok-table.table { root = c.in_ok-table-2.field-0; rowid = rowid } in
+    let made : IsNewTable l d c.in_ok-table.table = c.in_ok-table.ensures.made in
+    let fits : SFits w64 rowid = search rules in
+    let listed = listed_in c.in_ok-listed.listed in
+    let there : listed ≡ more l t = subst (λ z. listed ≡ more l (record t { rowid = z })) (to_z-of_z w64 rowid fits) c.in_ok-listed.ensures.added in
+    let new : is_name_of l t.name ≡ false = subst (λ (n : Name). is_name_of l n ≡ false) (sym made.makes.name_is) made.new in
+    ok_still _ _ c.list_keys.result c.list_keys.ensures.after (λ next still are. still (subst AreAfter (sym there) (table_after l t made.bare new are)))
 
 pub returns-clause-made : goal.returns-clause-made
 returns-clause-made g c told text db held =

@@ -15,6 +15,7 @@ keys-init g c = (
   refl,
   search rules,
   λ told db held table named bare empty new_names. none_keyed _ _ (listed_in c.args.catalog) db held table (named_itself (tables_of c.args.catalog) c.args.name.now table named) bare empty,
+  λ are. are,
 )
 
 pub returns-in_err-listed-clause-listed : goal.returns-in_err-listed-clause-listed
@@ -61,6 +62,10 @@ keys-preserved g c = (
       (c.in_ok-listed.ensures.listed (subst (λ b. IsTrue (pages.tells b)) (sym c.keys.invariant.0) told)) in
       step _ _ before db held table (named_itself before.tables c.args.name.now table named) new_names (pages.map c.keys.pages) c.keys.place small (listed_in c.keys.listed) k listed_in c.args.name.now
       (own_name_of before.tables c.args.name.now table named) t found c.in-Some-get.columns.now here own own_is c.in_ok-index.index index_is (pages.map c.list_index.new.pages) (Ok c.in_ok-listed.listed) lists,
+  λ are.
+      let t : Table = c.in-Some.table.now in
+      let found : table_named c.args.name.now (tables_of c.keys.listed) ≡ Some t = search rules in
+      c.in_ok-listed.ensures.after (named_itself (tables_of c.keys.listed) c.args.name.now t found) (c.keys.invariant.3 are),
 )
 
 pub returns-clause-listed : goal.returns-clause-listed

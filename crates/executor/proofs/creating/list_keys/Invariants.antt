@@ -6,6 +6,7 @@ use Rattle.catalog.specs.Database.{Database}
 use Rattle.catalog.specs.Listed.{table_named, listed_in, tables_of}
 use Rattle.catalog.specs.declared.tables.Table.{Table}
 use Rattle.executor.specs.Holding.{AreNewNames, HoldsListed, IsKeyed}
+use Rattle.executor.specs.Listing.{AreAfter}
 use Rattle.executor.proofs.creating.list_keys.Given as goal
 
 abbrev pub invariant-keys : goal.invariant-keys
@@ -16,3 +17,4 @@ invariant-keys g l =
     × Causes {T = ⊤} (Ok tt) (pages.failures l.fn.pages) (pages.failures l.pages) ⊥
     × (IsTrue (pages.tells (pages.below l.fn.pages)) → (db : Database) (held : HoldsListed (pages.map l.fn.pages) size (listed_in l.fn.catalog) db) (table : Table) → table_named l.name (tables_of l.fn.catalog) ≡ Some table
     → table.indexes ≡ [] → held.rows_at table.root ≡ [] → AreNewNames (listed_in l.fn.catalog) table.name → IsKeyed (pages.map l.pages) size (listed_in l.fn.catalog) db table l.place (listed_in l.listed))
+    × (AreAfter (listed_in l.fn.catalog) → AreAfter (listed_in l.listed))

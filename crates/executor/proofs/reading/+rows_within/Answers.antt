@@ -1,6 +1,6 @@
 use Rattle.std.proofs.Common.{List, Ok, [], length, map, refl, rules, subst, sym, ◌∷◌, ◌≡◌}
 use Rattle.std.proofs.lemmas.List.{nil_from_length}
-use Rattle.std.specs.Prelude.{⊤, Vec}
+use Rattle.std.specs.Prelude.{⊤, Vec, option_map}
 use Rattle.std.specs.declared.alloc.Global.{Global}
 use Rattle.smallvec.specs.SmallVec.{SmallVec}
 use Rattle.sqlval.specs.declared.value.Value.{Value}
@@ -8,17 +8,20 @@ use Rattle.pages.specs.Calls.{Stays}
 use Rattle.catalog.specs.Listed.{listed_in}
 use Rattle.executor.proofs.LoadedSources.{all_loaded, none_loaded, not_loaded, one_loaded, rows_answered, sources_refused}
 use Rattle.query_terms.specs.Values.{Row}
+use Rattle.query_terms.specs.declared.tree.Place.{Place}
 use Rattle.query_names.specs.declared.queries.Origin.{Origin}
 use Rattle.query_bind.specs.Named.{ArePlaced}
+use Rattle.query_view.specs.Seen.{answer_through}
 use Rattle.row_scan.specs.Rows.{values_of}
 use Rattle.executor.specs.Reading.{AreEnoughFor}
 use Rattle.query_names.specs.declared.queries.Origin.TheVariants.{Tree}
+use Rattle.executor.proofs.SeenViews.{over_seen, places_behind}
 use Rattle.executor.proofs.ShownViews.{over_view, shown_read}
 use Rattle.executor.proofs.StreamedRows.{bound_over}
-use Rattle.std.proofs.Common.{ℕ, suc, ◌+◌, ◌-◌, ◌<◌, arith, Some, None}
+use Rattle.std.proofs.Common.{ℕ, suc, ◌+◌, ◌-◌, ◌<◌, arith, Option, Some, None}
 use Rattle.catalog.specs.Listed.{tables_of, views_of}
 use Rattle.query_names.specs.declared.queries.Origin.TheVariants as origin
-use Rattle.executor.specs.Reading.{IsStreamedView, LoadsSource, ReadsView, ShowsTable, source_view}
+use Rattle.executor.specs.Reading.{IsSeenView, IsStreamedView, LoadsSource, ReadsView, ShowsTable, Streams, source_view}
 use Rattle.executor.proofs.IndexTrees.{tree_loaded}
 use Rattle.executor.proofs.LoadedSources.{no_view, view_loaded}
 use Rattle.executor.proofs.ViewRows.{no_room, rows_made, rows_refused, unbound}
@@ -135,14 +138,25 @@ pub rows_within-returns-in-Some-clause-answered : goal.rows_within-returns-in-So
 rows_within-returns-in-Some-clause-answered g t c told db stored placed known =
     let bound = c.args.bound.now in
     let only : bound.origins ≡ Tree c.in-Some.place ∷ [] = search rules in
-    bound_over (λ rows. map values_of rows.items) c.rows_are_loaded_beside_conditions.ensures (g.P.Pages.map c.args.pages.now) (g.P.Pages.limits (g.P.Pages.below c.args.pages.now)).page
-    (listed_in c.args.catalog.now) c.args.room db stored bound.reading bound.origins c.in-Some.place c.streamed_rows.result only placed
-    (c.streamed_rows.ensures.answered told (stored.rows_at c.in-Some.place.root))
+    bound_over c.rows_are_loaded_beside_conditions.ensures (g.P.Pages.map c.args.pages.now) (g.P.Pages.limits (g.P.Pages.below c.args.pages.now)).page
+    (listed_in c.args.catalog.now) c.args.room db stored bound.reading bound.origins c.in-Some.place only placed (λ rows. map values_of rows.items) c.streamed_rows.result (c.streamed_rows.ensures.answered told)
 
 pub rows_within-returns-in-Some-2-clause-answered : goal.rows_within-returns-in-Some-2-clause-answered
 rows_within-returns-in-Some-2-clause-answered g t c told db stored placed known =
     let bound = c.args.bound.now in
     let is : IsStreamedView (listed_in c.args.catalog.now) c.args.room bound c.in-Some-2.shown.table c.in-Some-2.shown.places.value.items = search rules in
-    over_view (λ rows. map values_of rows.items) c.rows_are_loaded_beside_conditions.ensures c.listed_tables_are_found.ensures.finds c.views_are_known.ensures
+    over_view c.rows_are_loaded_beside_conditions.ensures c.listed_tables_are_found.ensures.finds c.views_are_known.ensures
     (g.P.Pages.map c.args.pages.now) (g.P.Pages.limits (g.P.Pages.below c.args.pages.now)).page (listed_in c.args.catalog.now) c.args.room db stored bound
-    c.in-Some-2.shown.table c.in-Some-2.shown.places.value.items c.streamed_rows-in-Some-2.result is placed (c.streamed_rows-in-Some-2.ensures.answered told)
+    c.in-Some-2.shown.table c.in-Some-2.shown.places.value.items is placed (λ rows. map values_of rows.items) c.streamed_rows-in-Some-2.result (c.streamed_rows-in-Some-2.ensures.answered told)
+
+pub rows_within-returns-in-Some-3-clause-answered : goal.rows_within-returns-in-Some-3-clause-answered
+rows_within-returns-in-Some-3-clause-answered g t c told db stored placed known =
+    let bound = c.args.bound.now in
+    let places : Option (List Place) = option_map (λ places. places.value.items) c.in-Some-3.seen.places in
+    let is : IsSeenView (listed_in c.args.catalog.now) c.args.room bound c.in-Some-3.seen.view c.in-Some-3.seen.table places = search rules in
+    let same = places_behind c.as_ref-places.result c.in-Some-3.seen.places c.as_ref-places.ensures.value in
+    over_seen c.rows_are_loaded_beside_conditions.ensures c.listed_tables_are_found.ensures.finds c.views_are_known.ensures
+    (g.P.Pages.map c.args.pages.now) (g.P.Pages.limits (g.P.Pages.below c.args.pages.now)).page (listed_in c.args.catalog.now) c.args.room db stored bound c.in-Some-3.seen.view
+    c.in-Some-3.seen.table places is placed (λ rows. map values_of rows.items) c.seen_rows.result
+    (subst (λ (shown : Option (List Place)). Streams (λ rows. map values_of rows.items) (answer_through c.in-Some-3.seen.view bound.reading) (g.P.Pages.map c.args.pages.now) (g.P.Pages.limits (g.P.Pages.below c.args.pages.now)).page c.in-Some-3.seen.table shown
+    c.seen_rows.result) same (c.seen_rows.ensures.answered told))

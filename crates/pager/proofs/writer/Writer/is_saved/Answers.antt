@@ -1,5 +1,5 @@
 use Rattle.std.proofs.Common.{◌≡◌, ◌<◌, length, rules, arith}
-use Rattle.std.proofs.lemmas.Bool.{leb-true}
+use Rattle.std.proofs.lemmas.Bool.{le-leb, leb-true}
 use Rattle.std.specs.Prelude.{slice_index_or}
 use Rattle.pager.specs.Undo.{newest_stamp}
 use Rattle.pager.proofs.Undoing.{any_stamp, kept_even}
@@ -12,11 +12,19 @@ index-requires c =
     let long = c.args.self.now.stamps.ok.0 in
     omega (arith, even, within, long)
 
-pub returns : goal.returns
-returns c is =
+pub returns-clause-found : goal.returns-clause-found
+returns-clause-found c is =
     let stamp_is : c.index.result.now ≡ slice_index_or c.args.self.now.stamps.items c.args.index c.index.result.now = search rules in
     let limit : c.newest_stamp.result ≡ newest_stamp c.args.self.now.marks.items = search rules in
     let within : c.args.index < length c.args.self.now.stamps.items = (let even = kept_even _ _ _ _ _ c.args.self.now.kept in let at = c.requires in omega (arith, even, at)) in
     let le = leb-true _ _ is in
     let same = any_stamp c.args.self.now.stamps.items c.args.index c.index.result.now 0 within in
     omega (arith, le, limit, stamp_is, same)
+
+pub returns-clause-only : goal.returns-clause-only
+returns-clause-only c is =
+    let stamp_is : c.index.result.now ≡ slice_index_or c.args.self.now.stamps.items c.args.index c.index.result.now = search rules in
+    let limit : c.newest_stamp.result ≡ newest_stamp c.args.self.now.marks.items = search rules in
+    let within : c.args.index < length c.args.self.now.stamps.items = (let even = kept_even _ _ _ _ _ c.args.self.now.kept in let at = c.requires in omega (arith, even, at)) in
+    let same = any_stamp c.args.self.now.stamps.items c.args.index c.index.result.now 0 within in
+    le-leb _ _ (omega (arith, is, limit, stamp_is, same))

@@ -32,7 +32,7 @@ returns-then-is_saved-clause-rest c =
     let long : length here.bytes.items ≡ length c.args.bytes.now = search rules in
     let page = c.refill.ensures.page in
     let at : IsAt (changes_of c.args.self.now) page.number c.args.index = record { within = c.requires.place.within; number_is = λ d. sym (c.refill.ensures.number_is d) } in
-    let marks = states_young _ _ _ _ _ _ c.args.index page c.args.self.now.kept at c.refill.ensures.set_is (c.if-is_saved.ensures refl) in
+    let marks = states_young _ _ _ _ _ _ c.args.index page c.args.self.now.kept at c.refill.ensures.set_is (c.if-is_saved.ensures.found refl) in
     (overwrites c.args.self.now _ c.args.index c.args.number here page c.args.bytes.now (record { size = refl; page_size = refl; snapshot = refl; objects = refl; marks = marks }) c.refill.ensures.set_is
     c.requires.place there (c.refill.ensures.number_is here ∙ ap (λ (p : PageImage). p.number) (sym there)) c.refill.ensures.bytes_are c.requires.length long).rest
 
@@ -43,7 +43,7 @@ returns-then-is_saved-clause-page c =
     let long : length here.bytes.items ≡ length c.args.bytes.now = search rules in
     let page = c.refill.ensures.page in
     let at : IsAt (changes_of c.args.self.now) page.number c.args.index = record { within = c.requires.place.within; number_is = λ d. sym (c.refill.ensures.number_is d) } in
-    let marks = states_young _ _ _ _ _ _ c.args.index page c.args.self.now.kept at c.refill.ensures.set_is (c.if-is_saved.ensures refl) in
+    let marks = states_young _ _ _ _ _ _ c.args.index page c.args.self.now.kept at c.refill.ensures.set_is (c.if-is_saved.ensures.found refl) in
     (overwrites c.args.self.now _ c.args.index c.args.number here page c.args.bytes.now (record { size = refl; page_size = refl; snapshot = refl; objects = refl; marks = marks }) c.refill.ensures.set_is
     c.requires.place there (c.refill.ensures.number_is here ∙ ap (λ (p : PageImage). p.number) (sym there)) c.refill.ensures.bytes_are c.requires.length long).gets
 

@@ -27,7 +27,7 @@ returns-then-is_saved-clause-rest c =
     let here = here_at self.pages.items c.args.index c.requires.within in
     let is = here_is self.pages.items c.args.index c.requires.within in
     let at = part_at self.pages.items c.args.index c.args.number c.args.offset c.args.bytes.now here c.requires is in
-    let marks = states_young _ _ _ _ _ _ c.args.index (part_over c.args.offset c.args.bytes.now here) self.kept at (filled_is self.pages.items c.fill_part.new.pages.items c.args.index c.args.offset c.args.bytes.now here is c.fill_part.ensures) (c.if-is_saved.ensures refl) in
+    let marks = states_young _ _ _ _ _ _ c.args.index (part_over c.args.offset c.args.bytes.now here) self.kept at (filled_is self.pages.items c.fill_part.new.pages.items c.args.index c.args.offset c.args.bytes.now here is c.fill_part.ensures) (c.if-is_saved.ensures.found refl) in
     (part_filled self _ c.args.index c.args.number c.args.offset c.args.bytes.now (record { size = refl; page_size = refl; snapshot = refl; objects = refl; marks = marks }) c.requires (c.if-not-has_room.ensures.long refl) (c.if-not-has_room.ensures.fits refl) c.fill_part.ensures).rest
 
 pub returns-then-is_saved-clause-page : goal.returns-then-is_saved-clause-page
@@ -36,7 +36,7 @@ returns-then-is_saved-clause-page c =
     let here = here_at self.pages.items c.args.index c.requires.within in
     let is = here_is self.pages.items c.args.index c.requires.within in
     let at = part_at self.pages.items c.args.index c.args.number c.args.offset c.args.bytes.now here c.requires is in
-    let marks = states_young _ _ _ _ _ _ c.args.index (part_over c.args.offset c.args.bytes.now here) self.kept at (filled_is self.pages.items c.fill_part.new.pages.items c.args.index c.args.offset c.args.bytes.now here is c.fill_part.ensures) (c.if-is_saved.ensures refl) in
+    let marks = states_young _ _ _ _ _ _ c.args.index (part_over c.args.offset c.args.bytes.now here) self.kept at (filled_is self.pages.items c.fill_part.new.pages.items c.args.index c.args.offset c.args.bytes.now here is c.fill_part.ensures) (c.if-is_saved.ensures.found refl) in
     (part_filled self _ c.args.index c.args.number c.args.offset c.args.bytes.now (record { size = refl; page_size = refl; snapshot = refl; objects = refl; marks = marks }) c.requires (c.if-not-has_room.ensures.long refl) (c.if-not-has_room.ensures.fits refl) c.fill_part.ensures).gets
 
 pub returns-then-saves_parts-clause-rest : goal.returns-then-saves_parts-clause-rest
