@@ -1,7 +1,7 @@
 -- What `load` answers, and what one row of the schema table says (Database File Format, "Storage Of The SQL Database Schema").
-use Rattle.std.specs.Prelude.{◌≡◌, ◌<◌, ◌≤◌, true, false, ℕ, ℤ, codes, List, [], length, Option, Some, None, option_map}
+use Rattle.std.specs.Prelude.{◌≡◌, ◌<◌, ◌≤◌, true, false, ℕ, ℤ, codes, List, [], length, Option, Some, None, option_map, ⊤}
 use Rattle.sqlval.specs.declared.fault.Fault.{Fault}
-use Rattle.sqlval.specs.declared.fault.Fault.TheVariants.{Blank}
+use Rattle.sqlval.specs.declared.fault.Fault.TheVariants.{Blank, Damaged, Io, Memory, NotADatabase, Unsupported}
 use Rattle.sqlval.specs.declared.value.Value.{Value}
 use Rattle.sqlval.specs.Faults.{IsNotDiskFault}
 use Rattle.sqlval.specs.Names.{is_same_name}
@@ -30,6 +30,15 @@ use Rattle.db_load.specs.declared.schema.SchemaRow.{SchemaRow}
 -- neither a disk's failure, nor that of a full database or a blank file
 abbrev pub IsSchemaFault : Fault → Type 0
 IsSchemaFault fault = IsNotDiskFault fault × (fault ≡ Blank → ⊥)
+
+-- Why a database isn't loaded: its file is none, has what isn't supported, or is damaged; memory was short, or a disk's call failed.
+abbrev pub IsLoadFault : Fault → Type 0
+IsLoadFault Memory = ⊤
+IsLoadFault Io = ⊤
+IsLoadFault NotADatabase = ⊤
+IsLoadFault (Unsupported feature) = ⊤
+IsLoadFault (Damaged damage page) = ⊤
+IsLoadFault _ = ⊥
 
 -- The pages hold a database of what the catalog lists, and page 1 counts them.
 pub record FindsDatabase (map : PageMap) (size : ℕ) (catalog : Catalog) : Type 0 where

@@ -1,6 +1,6 @@
 //! Loading the tables, indexes, views and triggers of a database.
 
-ghost use Rattle.std.specs.Prelude.{◌≡◌, ◌↔◌, ℕ, IsTrue, Ok, IfOk, IfErr, OnOk, length};
+ghost use Rattle.std.specs.Prelude.{◌≡◌, ◌⊎◌, ℕ, IsTrue, Ok, IfOk, IfErr, OnOk, length};
 ghost use Rattle.sqlval.specs.Faults.{IsNotDiskFault, IsOutside};
 ghost use Rattle.sqlval.specs.PageSizes.{IsPageSize};
 ghost use Rattle.pages.specs.Calls.{Stays};
@@ -10,7 +10,7 @@ ghost use Rattle.catalog.specs.Listed.{Listed};
 ghost use Rattle.tree_check.specs.Checks.{CanMark};
 ghost use Rattle.tree_check.specs.Exact.{AreTold};
 ghost use Rattle.db_pages.specs.Stored.{IsCounted, Stores};
-ghost use Rattle.db_load.specs.Loading.{FindsDatabase};
+ghost use Rattle.db_load.specs.Loading.{FindsDatabase, IsLoadFault};
 ghost use Rattle.db_load.specs.Uses.{AreAllMarked, LoadsAll, LoadsUses};
 
 use crate::first::read_header;
@@ -104,20 +104,21 @@ fn load_checked<P: Pages>(alloc: Global, pages: &mut P, size: u32) -> R<Catalog>
     load_marked(alloc, pages, size, header)
 }
 
-/// The fault, with `Damaged(Header, 1)` in the place of `Blank`.
-fn not_blank(fault: Fault) -> Fault
+/// The fault, with `Damaged(Header, 1)` in the place of one that says nothing of files.
+fn load_fault(fault: Fault) -> Fault
     ensures outside { IsOutside fault → result ≡ fault }
-    ensures disk { IsNotDiskFault result ↔ IsNotDiskFault fault }
-    ensures not_blank { result ≡ Fault.Blank → ⊥ }
+    ensures same { (result ≡ fault) ⊎ IsNotDiskFault result }
+    ensures listed { IsLoadFault result }
 {
     match fault {
-        Fault::Blank => Fault::Damaged(Damage::Header, 1),
-        _ => fault,
+        Fault::Memory | Fault::Io | Fault::NotADatabase => fault,
+        Fault::Unsupported(_) | Fault::Damaged(_, _) => fault,
+        _ => Fault::Damaged(Damage::Header, 1),
     }
 }
 
 /// The tables, indexes, views and triggers of the database that the pages hold. (`Damaged` or `Unsupported` for pages that hold none; `Memory`;
-/// what `load` of the pages refuses, except for `Blank`.)
+/// `NotADatabase`, `Io`.)
 pub fn load<P: Pages>(alloc: Global, pages: &mut P, size: u32) -> R<Catalog>
     // What pages that hold a database list is loaded, unless memory runs out or a disk's call fails.
     ensures listed { (l : Listed) (database : Database)
@@ -130,10 +131,10 @@ pub fn load<P: Pages>(alloc: Global, pages: &mut P, size: u32) -> R<Catalog>
         → size ≡ length (P.Pages.map pages.old)
         → IfOk result (FindsDatabase (P.Pages.map pages.old) (P.Pages.limits (P.Pages.below pages.old)).page) }
     ensures stays { Stays P.Pages.below P.Pages.map P.Pages.count P.Pages.failures result pages.old pages.new }
-    ensures not_blank { IfErr result (λ fault. fault ≡ Fault.Blank → ⊥) }
+    ensures refused { IfErr result IsLoadFault }
 {
     match load_checked(alloc, pages, size) {
         Ok(catalog) => Ok(catalog),
-        Err(fault) => Err(not_blank(fault)),
+        Err(fault) => Err(load_fault(fault)),
     }
 }

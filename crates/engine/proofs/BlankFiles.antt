@@ -3,7 +3,7 @@ use Rattle.std.proofs.Common.{◌≡◌, inl, inr, sym, subst, ◌∙◌, Bool, 
 use Rattle.std.specs.Prelude.{Result, Ok, Err, MatchResult, IfErr, IsErrAnd}
 use Rattle.sqlval.specs.declared.fault.Fault.{Fault}
 use Rattle.sqlval.specs.declared.fault.Fault.TheVariants.{Io, Blank}
-use Rattle.wal.specs.Refusals.{IsCutRefusal, IsOpenRefusal}
+use Rattle.wal.specs.Refusals.{IsOpenRefusal}
 use Rattle.engine.specs.Creating.{is_blank_content}
 use Rattle.engine.specs.Opening.{TellsBlank}
 
@@ -22,10 +22,7 @@ told_blank bytes fault is blank = record { only = λ is. blank; always = λ blan
 pub other_refusal : (bytes : List ℕ) (fault : Fault) → (is_blank_content bytes ≡ true → ⊥) → (fault ≡ Blank → ⊥) → TellsBlank bytes fault
 other_refusal bytes fault isnt other = record { only = λ is. absurd (other is); always = λ blank. absurd (isnt blank) }
 
--- neither a cut of the log nor reading two files is refused so
-pub cut_not_blank : {D : Type 0} (has_failed : Bool) (old new : D) (fails more : ℕ) (fault : Fault) → IsCutRefusal has_failed old new fails more fault → fault ≡ Blank → ⊥
-cut_not_blank has_failed old new fails more fault refusal is = subst (λ (f : Fault). IsCutRefusal has_failed old new fails more f) is refusal
-
+-- reading two files isn't refused so
 pub open_not_blank : (called cannot : Type 0) (fault : Fault) → IsOpenRefusal called cannot fault → fault ≡ Blank → ⊥
 open_not_blank called cannot fault refusal is = subst (λ (f : Fault). IsOpenRefusal called cannot f) is refusal
 

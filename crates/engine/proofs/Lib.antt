@@ -13,6 +13,7 @@ pub mod NewFileCrashes
 pub mod Opened
 pub mod BlankFiles
 pub mod OpenAnswers
+pub mod OpenFaults
 pub mod Refusing
 pub mod KeptTexts
 pub mod TextSteps

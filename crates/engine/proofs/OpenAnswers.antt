@@ -11,7 +11,7 @@ use Rattle.wal_frame.specs.declared.log_header.Salts.{Salts}
 use Rattle.wal.specs.declared.log.Refused.{Refused}
 use Rattle.session.specs.Holding.{Hold, LeaveHeld}
 use Rattle.session.proofs.StoredFiles.{stored_if_held}
-use Rattle.engine.specs.Opening.{IsOpenedFrom, TellsBlank, IsRefusedOpen, LeavesOpened, db_left, log_left}
+use Rattle.engine.specs.Opening.{IsOpenFault, IsOpenedFrom, TellsBlank, IsRefusedOpen, LeavesOpened, db_left, log_left}
 use Rattle.engine.specs.declared.opening.Engine.{Engine}
 use Rattle.engine.proofs.HeldCrashes.{held_throughout}
 use Rattle.engine.proofs.Opened.{WereRead, as_before, then_opened}
@@ -34,8 +34,8 @@ module _ {D : Type 0} {g : Ghosts D} where
   pub refused_read : (db log : D) (salts : Salts) (refused : Refused D) → WereRead g.tells g.file g.failures db log refused.db refused.log
       → (IsTrue (g.tells db) → IsTrue (g.tells log) → (refused.fault ≡ Io → ⊥) → IsSynced (g.file refused.db) × IsSynced (g.file refused.log))
       → (refused.fault ≡ Io → Rose (g.failures db) (g.failures refused.db) ⊎ Rose (g.failures log) (g.failures refused.log))
-      → (IsTrue (g.tells db) → TellsBlank (g.file db).content refused.fault) → IsAnswer db log salts (Err refused)
-  refused_read db log salts refused were synced io blank = record {
+      → (IsTrue (g.tells db) → TellsBlank (g.file db).content refused.fault) → IsOpenFault refused.fault → IsAnswer db log salts (Err refused)
+  refused_read db log salts refused were synced io blank listed = record {
     crash = λ told_db told_log. as_before (g.file db) (g.file log) (g.file refused.db) (g.file refused.log) (were.before told_db told_log);
     left = λ told_db told_log db_was log_was. (were.db_kept.left told_db db_was, were.log_kept.left told_log log_was);
     opened = tt;
@@ -44,6 +44,7 @@ module _ {D : Type 0} {g : Ghosts D} where
       synced = synced;
       io = io;
       blank = blank;
+      listed = listed;
     };
   }
 

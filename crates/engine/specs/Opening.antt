@@ -18,6 +18,7 @@ use Rattle.wal.specs.LogState.{LogState, db_of, state_of, log_of}
 use Rattle.wal.specs.Stands.{log_end}
 use Rattle.wal.specs.Opened.{LeavesAsBefore}
 use Rattle.wal.specs.Crashes.{LeavesCommits}
+use Rattle.db_load.specs.Loading.{IsLoadFault}
 use Rattle.wal.specs.declared.log.Log.{Log}
 use Rattle.wal.specs.declared.log.Refused.{Refused}
 use Rattle.pager.specs.Views.{Tells, newest_view}
@@ -72,6 +73,10 @@ pub record TellsBlank (bytes : List ℕ) (fault : Fault) : Type 0 where
 abbrev pub KeepsBut : Fault → File → File → File → File → Fault → Type 0
 KeepsBut but db log new_db new_log fault = (fault ≡ but → ⊥) → (new_db.content ≡ db.content) × (new_log.content ≡ log.content)
 
+-- Why files aren't opened: for what keeps a database from being loaded, or for a database file that is blank.
+abbrev pub IsOpenFault : Fault → Type 0
+IsOpenFault fault = IsLoadFault fault ⊎ (fault ≡ Blank)
+
 -- What a refusal leaves, and why it comes: both files hold what they held and are synced, except where a call failed; that is `Io`,
 -- and it was counted. A blank file is refused as such, and no other.
 pub record IsRefusedOpen {D : Type 0} (tells : D → Bool) (file : D → File) (failures : D → ℕ) (db log : D) (refused : Refused D) : Type 0 where
@@ -79,6 +84,7 @@ pub record IsRefusedOpen {D : Type 0} (tells : D → Bool) (file : D → File) (
   pub synced : IsTrue (tells db) → IsTrue (tells log) → (refused.fault ≡ Io → ⊥) → IsSynced (file refused.db) × IsSynced (file refused.log)
   pub io : refused.fault ≡ Io → Rose (failures db) (failures refused.db) ⊎ Rose (failures log) (failures refused.log)
   pub blank : IsTrue (tells db) → TellsBlank (file db).content refused.fault
+  pub listed : IsOpenFault refused.fault
 
 module _ {D : Type 0} {g : Ghosts D} where
   -- nothing is known anew of the log, and the files are as they were

@@ -10,14 +10,14 @@ ghost use Rattle.pager.specs.Views.{Tells, newest_view};
 ghost use Rattle.pager.specs.Maps.{pages_in};
 ghost use Rattle.session.specs.Holding.{IsFound, IsSettled};
 ghost use Rattle.session.specs.Stored.{ShowsDatabase};
-ghost use Rattle.db_load.specs.Loading.{FindsDatabase};
+ghost use Rattle.db_load.specs.Loading.{FindsDatabase, IsLoadFault};
 ghost use Rattle.disk.specs.File.{IsContentLeft, IsSynced, Throughout};
 ghost use Rattle.wal_frame.specs.Accepted.{KeepsFile};
 ghost use Rattle.wal.specs.LogState.{db_of, state_of, log_of};
 ghost use Rattle.session.specs.ConnectionState.{HasCause};
 ghost use Rattle.pager_older.specs.Counting.{CountsIo};
 ghost use Rattle.engine.specs.Creating.{is_blank_content};
-ghost use Rattle.engine.specs.Opening.{HasPageSize, IsCutTo, KeepsFiles, KeepsFilesBut, LeavesOpened, ReadsHeader, StartsWith, TellsBlank};
+ghost use Rattle.engine.specs.Opening.{HasPageSize, IsCutTo, IsOpenFault, KeepsFiles, KeepsFilesBut, LeavesOpened, ReadsHeader, StartsWith, TellsBlank};
 ghost use Rattle.sqlval.specs.declared.fault.Fault.TheVariants.{Io};
 ghost use Rattle.disk.specs.Calls.{Rose};
 ghost use Rattle.session.specs.Seats.{AreFresh, catalog_in};
@@ -57,6 +57,7 @@ fn file_header<D: Disk>(db: &mut D) -> R<Header>
     ensures blank { IsTrue (D.tells db.old)
         → MatchResult result (λ _. is_blank_content (D.file db.old).content ≡ true → ⊥)
         (TellsBlank (D.file db.old).content) }
+    ensures refused { IfErr result IsOpenFault }
 {
     if is_blank(db)? {
         return Err(Fault::Blank);
@@ -80,7 +81,7 @@ fn load_files<D: Disk + Drop>(alloc: Global, log: &mut Log<D>) -> R<Catalog>
     ensures found { Tells log.old → IfOk result
         (FindsDatabase (pages_in (newest_view log.old)) (newest_view log.old).page_size) }
     ensures cause { HasCause false result log.old log.new }
-    ensures not_blank { IfErr result (λ fault. fault ≡ Fault.Blank → ⊥) }
+    ensures refused { IfErr result IsLoadFault }
 {
     let snapshot = log.begin();
     let size = log.size(snapshot);
@@ -104,7 +105,7 @@ fn load_seats<D: Disk + Drop>(alloc: Global, log: &mut Log<D>) -> R<Seats>
         (newest_view log.old).page_size (catalog_in seats)) }
     ensures fresh { IfOk result AreFresh }
     ensures cause { HasCause false result log.old log.new }
-    ensures not_blank { IfErr result (λ fault. fault ≡ Fault.Blank → ⊥) }
+    ensures refused { IfErr result IsLoadFault }
 {
     let catalog = load_files(alloc, log)?;
     Seats::new(alloc, catalog)
@@ -138,7 +139,7 @@ fn load_and_truncate<D: Disk + Drop>(alloc: Global, log: &mut Log<D>) -> R<Seats
         → ShowsDatabase (newest_view log.old) tables database
         → IsOrOutside (StartsWith database log.new) result }
     ensures cause { HasCause false result log.old log.new }
-    ensures not_blank { IfErr result (λ fault. fault ≡ Fault.Blank → ⊥) }
+    ensures refused { IsFalse (state_of log.old).has_failed → IfErr result IsLoadFault }
 {
     pages_store_one_database();
     let seats = load_seats(alloc, log)?;

@@ -8,6 +8,7 @@ use Rattle.engine.proofs.EmptyOpening.{clash}
 use Rattle.pager.proofs.Headers.{header_fault, header_not_blank}
 use Rattle.engine.proofs.BlankFiles.{call_failed, no_blank, other_refusal, told_blank}
 use Rattle.engine.proofs.CountedCalls.{call_refused, calm_refused, part_refused}
+use Rattle.engine.proofs.OpenFaults.{call_listed, header_listed}
 use Rattle.engine.proofs.opening.file_header.Goals as goal
 
 pub returns-then-branch-clause-read : goal.returns-then-branch-clause-read
@@ -72,3 +73,15 @@ returns-in_err-read_at-clause-blank g c = λ told. call_failed (g.D.Disk.file c.
 
 pub returns-clause-blank : goal.returns-clause-blank
 returns-clause-blank g c = λ told. no_blank (g.D.Disk.file c.args.db.now).content c.read.result (λ blank. clash (sym blank ∙ sym (c.in_ok-is_blank.ensures.blank told) ∙ c.if-branch.false)) (header_not_blank _ c.read.result c.read.ensures.exact)
+
+pub returns-in_err-is_blank-clause-refused : goal.returns-in_err-is_blank-clause-refused
+returns-in_err-is_blank-clause-refused g c = call_listed _ c.in_err-is_blank.field-0.0 c.from_residual.ensures.1 c.in_err-is_blank.ensures.refused
+
+pub returns-in_err-len-clause-refused : goal.returns-in_err-len-clause-refused
+returns-in_err-len-clause-refused g c = call_listed _ c.in_err-len.field-0.0 c.from_residual-in_err-len.ensures.1 c.in_err-len.ensures.refused
+
+pub returns-in_err-read_at-clause-refused : goal.returns-in_err-read_at-clause-refused
+returns-in_err-read_at-clause-refused g c = call_listed _ c.in_err-read_at.field-0.0 c.from_residual-in_err-read_at.ensures.1 c.in_err-read_at.ensures.refused
+
+pub returns-clause-refused : goal.returns-clause-refused
+returns-clause-refused g c = header_listed _ c.read.result c.read.ensures.exact

@@ -1,13 +1,14 @@
 use Rattle.std.proofs.Common.{◌≡◌, arith, inr, ap, sym, subst, ◌∙◌}
 use Rattle.disk.specs.File.{File, IsContentLeft}
-use Rattle.sqlval.specs.declared.fault.Fault.TheVariants.{Blank, Io}
+use Rattle.sqlval.specs.declared.fault.Fault.TheVariants.{Io}
 use Rattle.wal.specs.LogState.{LogState, db_of, log_of}
+use Rattle.db_load.specs.Loading.{IsLoadFault}
 use Rattle.engine.specs.Opening.{HasPageSize, KeepsFilesBut}
 use Rattle.session.proofs.Showing.{read_files}
 use Rattle.engine.proofs.HeldOpening.{not_started, starts}
 use Rattle.engine.proofs.Refusing.{cut_failed, cut_kept, never_ok, no_ok, on_err}
 use Rattle.engine.proofs.Opened.{cut_as, read_then_cut}
-use Rattle.engine.proofs.BlankFiles.{cut_not_blank}
+use Rattle.engine.proofs.OpenFaults.{cut_listed}
 use Rattle.engine.proofs.CountedCalls.{causes_passed, cut_causes}
 use Rattle.engine.proofs.opening.load_and_truncate.Goals as goal
 
@@ -53,13 +54,13 @@ returns-in_err-cut_tail g c = record {
   cause =
       cut_causes g.D.Disk.failures _ c.from_residual-in_err-cut_tail.result c.in_err-cut_tail.field-0.0 _ (db_of c.args.log.now) (db_of c.load_seats.new.log) (db_of c.cut_tail.new.self) (log_of c.args.log.now) (log_of c.load_seats.new.log) (log_of c.cut_tail.new.self)
       c.load_seats.ensures.cause.db c.load_seats.ensures.cause.log c.cut_tail.ensures.same.db c.cut_tail.ensures.same.counts c.from_residual-in_err-cut_tail.ensures.1 c.in_err-cut_tail.ensures.refused;
-  not_blank =
-      on_err (λ f. f ≡ Blank → ⊥) c.from_residual-in_err-cut_tail.result c.in_err-cut_tail.field-0.0 c.from_residual-in_err-cut_tail.ensures.1
-      (cut_not_blank _ _ _ _ _ c.in_err-cut_tail.field-0.0 c.in_err-cut_tail.ensures.refused);
+  refused = λ whole.
+      on_err IsLoadFault c.from_residual-in_err-cut_tail.result c.in_err-cut_tail.field-0.0 c.from_residual-in_err-cut_tail.ensures.1
+      (cut_listed _ _ _ _ _ _ c.in_err-cut_tail.ensures.refused (ap (λ (known : LogState). known.has_failed) c.load_seats.ensures.kept.known ∙ whole));
 }
 
-pub returns-in_err-seats-clause-not_blank : goal.returns-in_err-seats-clause-not_blank
-returns-in_err-seats-clause-not_blank g c = on_err (λ f. f ≡ Blank → ⊥) c.from_residual.result c.in_err-seats.field-0.0 c.from_residual.ensures.1 c.in_err-seats.ensures.not_blank
+pub returns-in_err-seats-clause-refused : goal.returns-in_err-seats-clause-refused
+returns-in_err-seats-clause-refused g c = λ whole. on_err IsLoadFault c.from_residual.result c.in_err-seats.field-0.0 c.from_residual.ensures.1 c.in_err-seats.ensures.refused
 
 pub returns : goal.returns
 returns g c = record {
@@ -91,7 +92,7 @@ returns g c = record {
     log = omega (arith, c.load_seats.ensures.cause.log, c.cut_tail.ensures.same.counts);
     why = tt;
   };
-  not_blank = tt;
+  refused = λ whole. tt;
 }
 
 pub returns-in_err-seats-clause-cause : goal.returns-in_err-seats-clause-cause

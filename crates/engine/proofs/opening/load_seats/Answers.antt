@@ -1,11 +1,10 @@
-use Rattle.std.proofs.Common.{◌≡◌}
-use Rattle.db_load.specs.Loading.{FindsDatabase}
+use Rattle.db_load.specs.Loading.{FindsDatabase, IsLoadFault}
 use Rattle.pager.specs.Maps.{pages_in}
 use Rattle.pager.specs.Views.{newest_view}
 use Rattle.sqlval.specs.Faults.{IsOutside}
-use Rattle.sqlval.specs.declared.fault.Fault.TheVariants.{Blank}
 use Rattle.engine.proofs.CountedCalls.{causes_passed}
 use Rattle.engine.proofs.HeldOpening.{seats_find, short_at_most}
+use Rattle.engine.proofs.OpenFaults.{memory_listed}
 use Rattle.engine.proofs.Refusing.{on_err}
 use Rattle.engine.proofs.opening.load_seats.Goals as goal
 
@@ -15,8 +14,11 @@ returns-in_err-catalog-clause-listed g c tables database told stored found = on_
 pub returns-in_err-catalog-clause-cause : goal.returns-in_err-catalog-clause-cause
 returns-in_err-catalog-clause-cause g c = causes_passed _ _ c.in_err-catalog.field-0.0 _ _ c.from_residual.ensures.1 c.in_err-catalog.ensures.cause
 
-pub returns-in_err-catalog-clause-not_blank : goal.returns-in_err-catalog-clause-not_blank
-returns-in_err-catalog-clause-not_blank g c = on_err (λ f. f ≡ Blank → ⊥) c.from_residual.result c.in_err-catalog.field-0.0 c.from_residual.ensures.1 c.in_err-catalog.ensures.not_blank
+pub returns-in_err-catalog-clause-refused : goal.returns-in_err-catalog-clause-refused
+returns-in_err-catalog-clause-refused g c = on_err IsLoadFault c.from_residual.result c.in_err-catalog.field-0.0 c.from_residual.ensures.1 c.in_err-catalog.ensures.refused
+
+pub returns-clause-refused : goal.returns-clause-refused
+returns-clause-refused g c = memory_listed c.new.result c.new.ensures.refused
 
 pub returns-clause-listed : goal.returns-clause-listed
 returns-clause-listed g c tables database told stored found = short_at_most c.new.result c.new.ensures.refused

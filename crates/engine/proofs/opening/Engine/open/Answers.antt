@@ -11,6 +11,7 @@ use Rattle.wal.specs.Sizes.{IsSizeWithinLimits}
 use Rattle.catalog.specs.Listed.{listed_in}
 use Rattle.session.specs.Seats.{catalog_in}
 use Rattle.pager.specs.Views.{Tells, newest_view}
+use Rattle.db_load.specs.Loading.{IsLoadFault}
 use Rattle.engine.specs.Creating.{is_blank_content}
 use Rattle.engine.specs.Opening.{HasPageSize, IsCutTo, TellsBlank, KeepsFilesBut, LeavesOpened, Opens}
 use Rattle.session.proofs.Standing.{held_if_stored}
@@ -20,6 +21,7 @@ use Rattle.engine.proofs.CountedCalls.{opened_rose, rose_both}
 use Rattle.engine.proofs.HeldOpening.{can_open, found_held, found_view, head_of, held_as, not_opened, opened_held, opened_settled, starts_shown}
 use Rattle.engine.proofs.HeldCrashes.{has_pages}
 use Rattle.engine.proofs.Opened.{WereRead, cut_as, read_on, synced_as, not_called}
+use Rattle.engine.proofs.OpenFaults.{io_listed, load_not_blank, log_listed}
 use Rattle.engine.proofs.OpenAnswers.{IsAnswer, cut_crash, given_back, holds, refused_read}
 use Rattle.engine.proofs.opening.Engine.open.Goals as goal
 
@@ -32,7 +34,7 @@ returns-in_err-files g c =
     record { db_kept = c.in_err-files.ensures.kept.0; log_kept = c.in_err-files.ensures.kept.1; before = c.in_err-files.ensures.crash } in
     let answer : IsAnswer {g = g.D.Disk} c.args.db c.args.log c.args.salts c.from_residual.result =
     subst (IsAnswer {g = g.D.Disk} c.args.db c.args.log c.args.salts) (sym is)
-    (refused_read c.args.db c.args.log c.args.salts _ were (λ told_db told_log other. absurd (other why.0)) (λ io. why.1) (λ told. failed _ _ why.0)) in
+    (refused_read c.args.db c.args.log c.args.salts _ were (λ told_db told_log other. absurd (other why.0)) (λ io. why.1) (λ told. failed _ _ why.0) (inl (io_listed _ why.0))) in
     record {
       crash = answer.crash;
       holds = holds c.args.db c.args.log c.args.salts c.from_residual.result answer;
@@ -55,7 +57,7 @@ returns-in-Err g c =
     refused_read c.args.db c.args.log c.args.salts _ were
     (λ told_db told_log other. (synced_as _ _ (read.same (told told_db)) (files.db_synced (told told_db)), files.log_synced (synced.log_kept.tells_same ∙ told_log)))
     (λ io. rose_both _ (g.D.Disk.failures files.db) _ _ _ (g.D.Disk.failures files.log) _ _ synced.db_kept.counts synced.log_kept.counts refl refl (inl (c.in-Err.ensures.counted.io io)))
-    (λ told_db. subst (λ bytes. TellsBlank bytes c.in-Err.fault) (same told_db) (c.in-Err.ensures.blank (told told_db))) in
+    (λ told_db. subst (λ bytes. TellsBlank bytes c.in-Err.fault) (same told_db) (c.in-Err.ensures.blank (told told_db))) c.in-Err.ensures.refused in
     record {
       crash = answer.crash;
       holds = holds c.args.db c.args.log c.args.salts _ answer;
@@ -90,7 +92,7 @@ returns-in_err-log g c =
       synced_as _ _ (kept.1.same (header.log_kept.tells_same ∙ told_log)) (files.log_synced (synced.log_kept.tells_same ∙ told_log)),
     ))
     (λ io. rose_both _ (g.D.Disk.failures c.file_header.new.db) _ _ _ (g.D.Disk.failures files.log) _ _ header.db_kept.counts header.log_kept.counts refl refl (opened_rose _ _ _ c.in_err-log.ensures.refused io))
-    (λ told_db. other_refusal _ _ (λ blank. c.in-Ok.ensures.blank (told told_db) (ap is_blank_content (synced.db_kept.same told_db) ∙ blank)) (open_not_blank _ _ refused.fault c.in_err-log.ensures.refused))) in
+    (λ told_db. other_refusal _ _ (λ blank. c.in-Ok.ensures.blank (told told_db) (ap is_blank_content (synced.db_kept.same told_db) ∙ blank)) (open_not_blank _ _ refused.fault c.in_err-log.ensures.refused)) (inl (log_listed _ _ refused.fault c.in_err-log.ensures.refused))) in
     record {
       crash = answer.crash;
       holds = holds c.args.db c.args.log c.args.salts c.from_residual-in_err-log.result answer;
@@ -214,6 +216,7 @@ returns-in-Err-load_and_truncate g c =
     (were.db_kept.same told_db ∙ sym (synced.db_kept.same told_db)) in
     let two = c.load_and_truncate in
     let fault = c.in-Err-load_and_truncate.fault in
+    let loaded : IsLoadFault fault = c.in-Err-load_and_truncate.ensures.refused c.in_ok-log.ensures.known.whole in
     let same : IsTrue (g.D.Disk.tells c.args.db) → IsTrue (g.D.Disk.tells c.args.log) → KeepsFilesBut Io (file (db_of opened)) (file (log_of opened)) (file (db_of two.new.log)) (file (log_of two.new.log)) fault =
     λ told_db told_log. subst (λ r. IfErr r (KeepsFilesBut Io (file (db_of opened)) (file (log_of opened)) (file (db_of two.new.log)) (file (log_of two.new.log)))) c.in-Err-load_and_truncate.is
     (two.ensures.kept (were.db_kept.tells_same ∙ told_db) (were.log_kept.tells_same ∙ told_log)) in
@@ -231,7 +234,8 @@ returns-in-Err-load_and_truncate g c =
             (ap (λ (f : File). f.content) still.0 ∙ were.db_kept.same told_db, ap (λ (f : File). f.content) still.1 ∙ were.log_kept.same told_log);
         synced = λ told_db told_log other. (let still = same told_db told_log other in (synced_as _ _ still.0 (db_synced told_db), synced_as _ _ still.1 (log_synced told_log)));
         io = λ io. rose_both _ (g.D.Disk.failures (db_of opened)) _ _ _ (g.D.Disk.failures (log_of opened)) _ _ were.db_kept.counts were.log_kept.counts refl refl (c.in-Err-load_and_truncate.ensures.cause.why.io io);
-        blank = λ told_db. other_refusal _ _ (λ blank. c.in-Ok.ensures.blank (told told_db) (ap is_blank_content (synced.db_kept.same told_db) ∙ blank)) c.in-Err-load_and_truncate.ensures.not_blank;
+        blank = λ told_db. other_refusal _ _ (λ blank. c.in-Ok.ensures.blank (told told_db) (ap is_blank_content (synced.db_kept.same told_db) ∙ blank)) (load_not_blank fault loaded);
+        listed = inl loaded;
       };
     }) in
     record {
