@@ -28,16 +28,15 @@ fn least_len(usable: u64) -> u64
     (room / 255 * 32 + room % 255 * 32 / 255).saturating_sub(23)
 }
 
-/// How many bytes of a cell are for a payload, of which at most `most` lie there: with the number of the first overflow
-/// page, where there is one.
-fn held_len(usable: u64, most: u64, size: u64) -> u64
+/// How many bytes of a cell are for a payload that doesn't lie whole there: with the number of the first overflow page.
+#[cold]
+#[inline(never)]
+fn cut_len(usable: u64, most: u64, size: u64) -> u64
     requires short { usable < 2 ^ 63 }
     requires within { most ≤ usable }
+    requires cut { most < size }
     ensures { result ≡ held_size usable most size }
 {
-    if size <= most {
-        return size;
-    }
     let least = least_len(usable);
     // A page is longer than its header of 8 bytes: the 1 only keeps the division whole.
     let room = usable.saturating_sub(4).max(1);
@@ -49,7 +48,23 @@ fn held_len(usable: u64, most: u64, size: u64) -> u64
     }
 }
 
+/// How many bytes of a cell are for a payload, of which at most `most` lie there: with the number of the first overflow
+/// page, where there is one.
+#[inline(always)]
+fn held_len(usable: u64, most: u64, size: u64) -> u64
+    requires short { usable < 2 ^ 63 }
+    requires within { most ≤ usable }
+    ensures { result ≡ held_size usable most size }
+{
+    if size <= most {
+        size
+    } else {
+        cut_len(usable, most, size)
+    }
+}
+
 /// What a cell has of a payload, and the bytes after it; None if they end before.
+#[inline(always)]
 #[tactic(auto, unfolding(crate::specs::Bytes::leading_local))]
 fn read_local(usable: u64, most: u64, size: u64, bytes: &[u8]) -> Option<(Local<'_>, &[u8])>
     requires short { usable < 2 ^ 63 }
@@ -66,6 +81,7 @@ fn read_local(usable: u64, most: u64, size: u64, bytes: &[u8]) -> Option<(Local<
 }
 
 /// A row, and the bytes after its cell; None if they end before.
+#[inline(always)]
 #[tactic(auto, unfolding(crate::specs::Bytes::leading_row))]
 fn read_row(usable: u64, bytes: &[u8]) -> Option<(Row<'_>, &[u8])>
     requires { usable < 2 ^ 63 }
@@ -136,6 +152,7 @@ fn skip_cell(kind: Kind, usable: u64, bytes: &[u8]) -> Option<&[u8]>
 }
 
 /// A row of a page whose header begins at an offset; None if the page ends before, or has no such row.
+#[inline(always)]
 pub fn find_row(page: &[u8], start: usize, header: Header, index: usize) -> Option<Row<'_>>
     ensures { option_map row_of result ≡ item_on leading_row page.now start (header_parts header) index }
 {

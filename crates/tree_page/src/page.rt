@@ -100,6 +100,7 @@ impl<'a> TreePage<'a> {
     }
 
     /// A row of a table's leaf. (`Damaged(Cell, 0)` as for `cell`.)
+    #[inline(always)]
     pub fn row(&self, index: usize) -> R<Row<'a>>
         ensures only { (rows : List (ℤ × LocalIs)) (d : ℤ × LocalIs)
             → IsNode self.now.bytes self.now.start (Rows rows)

@@ -1,27 +1,24 @@
 -- The rows of a batch, whose payloads lie one after another.
 use Rattle.std.proofs.Common.{◌≡◌, refl, sym, ◌∙◌, ap, subst, ℕ, zero, suc, ℤ, ◌<◌, ◌≤◌, ◌+◌, ◌-◌, Bool, List, [], ◌∷◌, ◌++◌, length, take, drop, append_assoc, slice_index_or, Ok, IsTrue, arith}
-use Rattle.std.proofs.lemmas.List.{length-append, take_at, drop_at, take_more, take_all, length-drop, get_or-drop, map-append}
+use Rattle.std.proofs.lemmas.List.{append-nil, length-append, take_at, drop_at, take_more, take_all, length-drop, get_or-drop, map-append}
 use Rattle.std.proofs.lemmas.List.Concat.{flat_map-append}
 use Rattle.std.specs.List.{flat_map}
-use Rattle.std.specs.Prelude.{⊤}
+use Rattle.std.specs.Prelude.{⊤, Result, MatchResult}
+use Rattle.sqlval.specs.Faults.{IsOutside}
+use Rattle.sqlval.specs.declared.fault.Fault.{Fault}
 use Rattle.tree_leaf.specs.Leaf.{Entry}
 use Rattle.pages.specs.Calls.{Limits, Stays}
 use Rattle.pages.specs.Map.{PageMap, AreWhole, page_at}
-use Rattle.tree_table.specs.Scanning.{entries_from, start_at}
+use Rattle.tree_table.specs.Scanning.{AreBatched, AreLaid, GoesOn, entries_from, rows_between, start_at}
 use Rattle.tree_table.specs.Tree.{Held, Leaf, IsLeaf}
+use Rattle.tree_table.specs.Ways.{CountsRows}
 use Rattle.tree_table.specs.declared.scanning.BatchRow.{BatchRow}
+use Rattle.tree_table.proofs.FoundRows.{since}
 use Rattle.tree_table.proofs.WaysDown.{rows_in}
 
 -- the payloads, one after another
 abbrev pub payloads_of : List Entry → List ℕ
 payloads_of entries = flat_map (λ entry. entry.payload) entries
-
--- rows of a batch have the rowids of these, and each payload ends as far behind the one before it as it is long
-abbrev pub AreLaid : ℕ → List BatchRow → List Entry → Type 0
-AreLaid start [] [] = ⊤
-AreLaid start [] (entry ∷ entries) = ⊥
-AreLaid start (row ∷ rows) [] = ⊥
-AreLaid start (row ∷ rows) (entry ∷ entries) = (row.rowid ≡ entry.rowid) × (row.end ≡ start + length entry.payload) × AreLaid row.end rows entries
 
 laid_on : (start : ℕ) (rows : List BatchRow) (entries : List Entry) (row : BatchRow) (entry : Entry) → AreLaid start rows entries → row.rowid ≡ entry.rowid
     → row.end ≡ start + (length (payloads_of entries) + length entry.payload) → AreLaid start (rows ++ row ∷ []) (entries ++ entry ∷ [])
@@ -84,11 +81,7 @@ start_is start (suc (suc index)) (one ∷ rows) other some lt =
 
 -- ---- the rows of a leaf, up to a place
 
--- the rows from one place up to another
-abbrev pub rows_between : ℕ → ℕ → List Held → List Entry
-rows_between place to rows = rows_in (take (to - place) (drop place rows))
-
-one_more : (place at : ℕ) (rows : List Held) (d : Held) → place ≤ at → at < length rows → rows_between place (at + 1) rows ≡ rows_between place at rows ++ (slice_index_or rows at d).row ∷ []
+pub one_more : (place at : ℕ) (rows : List Held) (d : Held) → place ≤ at → at < length rows → rows_between place (at + 1) rows ≡ rows_between place at rows ++ (slice_index_or rows at d).row ∷ []
 one_more place at rows d le lt =
     let within : at - place < length (drop place rows) = (let left = length-drop place rows in omega (arith, left, le, lt)) in
     let next : (at + 1) - place ≡ (at - place) + 1 = omega (arith, le) in
@@ -100,30 +93,28 @@ one_more place at rows d le lt =
 pub all_copied : (place at : ℕ) (rows : List Held) → length rows ≤ at → rows_between place at rows ≡ rows_in (drop place rows)
 all_copied place at rows le = ap rows_in (take_all (at - place) (drop place rows) (let left = length-drop place rows in omega (arith, left, le)))
 
--- rows of a batch, and their bytes, are those of a leaf up to a place
-pub record AreCopied (place at : ℕ) (from : List Held) (rows : List BatchRow) (bytes : List ℕ) : Type 0 where
-  pub laid : AreLaid 0 rows (rows_between place at from)
-  pub bytes_are : bytes ≡ payloads_of (rows_between place at from)
-
-pub copied_more : (place at : ℕ) (from : List Held) (rows : List BatchRow) (bytes after : List ℕ) (row : BatchRow) (d : Held) → place ≤ at → at < length from → AreCopied place at from rows bytes
-    → row.rowid ≡ (slice_index_or from at d).row.rowid → after ≡ bytes ++ (slice_index_or from at d).row.payload → row.end ≡ length after → AreCopied place (at + 1) from (rows ++ row ∷ []) after
-copied_more place at from rows bytes after row d le lt copied rowid payload ends =
-    let entry = (slice_index_or from at d).row in
-    let before = rows_between place at from in
-    let more = one_more place at from d le lt in
+-- one more row comes behind them
+pub entries_put : (entries : List Entry) (rows : List BatchRow) (bytes after : List ℕ) (row : BatchRow) (entry : Entry) → AreBatched entries rows bytes → row.rowid ≡ entry.rowid
+    → after ≡ bytes ++ entry.payload → row.end ≡ length after → AreBatched (entries ++ entry ∷ []) (rows ++ row ∷ []) after
+entries_put entries rows bytes after row entry are rowid payload ends =
     let long = ap length payload ∙ length-append bytes entry.payload in
-    let was = ap length copied.bytes_are in
+    let was = ap length are.bytes_are in
     record {
-      laid = subst (λ (es : List Entry). AreLaid 0 (rows ++ row ∷ []) es) (sym more) (laid_on 0 rows before row entry copied.laid rowid (omega (arith, ends, long, was)));
-      bytes_are = payload ∙ ap (λ (l : List ℕ). l ++ entry.payload) copied.bytes_are ∙ sym (flat_map-append (λ (e : Entry). e.payload) before (entry ∷ []) ∙ ap (λ (l : List ℕ). payloads_of before ++ l) (nothing_more entry.payload)) ∙ ap payloads_of (sym more);
+      laid = laid_on 0 rows entries row entry are.laid rowid (omega (arith, ends, long, was));
+      bytes_are = payload ∙ ap (λ (l : List ℕ). l ++ entry.payload) are.bytes_are
+          ∙ sym (flat_map-append (λ (e : Entry). e.payload) entries (entry ∷ []) ∙ ap (λ (l : List ℕ). payloads_of entries ++ l) (append-nil entry.payload));
     }
-  where
-    nothing_more : (l : List ℕ) → l ++ [] ≡ l
-    nothing_more [] = refl
-    nothing_more (x ∷ xs) = ap (λ (ys : List ℕ). x ∷ ys) (nothing_more xs)
+
+pub copied_more : (place at : ℕ) (from : List Held) (rows : List BatchRow) (bytes after : List ℕ) (row : BatchRow) (d : Held) → place ≤ at → at < length from
+    → AreBatched (rows_between place at from) rows bytes → row.rowid ≡ (slice_index_or from at d).row.rowid → after ≡ bytes ++ (slice_index_or from at d).row.payload → row.end ≡ length after
+    → AreBatched (rows_between place (at + 1) from) (rows ++ row ∷ []) after
+copied_more place at from rows bytes after row d le lt copied rowid payload ends =
+    subst (λ (es : List Entry). AreBatched es (rows ++ row ∷ []) after) (sym (one_more place at from d le lt))
+    (entries_put (rows_between place at from) rows bytes after row (slice_index_or from at d).row copied rowid payload ends)
 
 -- the batch has the rows of the leaf then
-pub copied_are : (place at : ℕ) (from : List Held) (rows : List BatchRow) (bytes : List ℕ) → length from ≤ at → AreCopied place at from rows bytes → entries_from 0 rows bytes ≡ rows_in (drop place from)
+pub copied_are : (place at : ℕ) (from : List Held) (rows : List BatchRow) (bytes : List ℕ) → length from ≤ at → AreBatched (rows_between place at from) rows bytes
+    → entries_from 0 rows bytes ≡ rows_in (drop place from)
 copied_are place at from rows bytes le copied =
     ap (λ (l : List ℕ). entries_from 0 rows l) copied.bytes_are ∙ laid_are 0 rows (rows_between place at from) [] copied.laid refl ∙ all_copied place at from le
 
@@ -137,4 +128,28 @@ pub record HasCopied {P K : Type 0} (below : P → K) (tells : K → Bool) (limi
   pub from : place ≤ at
   pub loaded : IsTrue (tells (below old)) → held new ≡ page_at (map old) leaf
   pub copied : IsTrue (tells (below old)) → (it : Leaf) → AreWhole (limits (below old)).page (map old) → IsLeaf (map old) (limits (below old)).page it → it.page ≡ leaf
-      → AreCopied place at it.rows rows bytes
+      → AreBatched (rows_between place at it.rows) rows bytes
+
+module _ {P K : Type 0} (below : P → K) (tells : K → Bool) (limits : K → Limits) (map : P → PageMap) (count : P → ℕ) (failures : P → ℕ × ℕ) (held : P → List ℕ) where
+  -- what a call says of the pages as they are, it says of those at first
+  pub gone_on : (old mid : P) (leaf place at : ℕ) (rows new_rows : List BatchRow) (bytes new_bytes : List ℕ) (result : Result ℕ Fault) → HasCopied below tells limits map count failures held old mid leaf place at rows bytes
+      → (IsTrue (tells (below mid)) → held mid ≡ page_at (map mid) leaf → GoesOn (map mid) (limits (below mid)).page leaf at rows bytes new_rows new_bytes result) → IsTrue (tells (below old))
+      → (it : Leaf) → AreWhole (limits (below old)).page (map old) → IsLeaf (map old) (limits (below old)).page it → it.page ≡ leaf → at < length it.rows
+      → MatchResult result (λ to. AreBatched (rows_between place to it.rows) new_rows new_bytes) IsOutside
+  gone_on old mid leaf place at rows new_rows bytes new_bytes result has goes told it whole is there lt =
+      since below tells limits map (λ (m : PageMap) (n : ℕ). GoesOn m n leaf at rows bytes new_rows new_bytes result) old mid has.stays.kept has.stays.same
+      (λ tells. goes tells (loaded_on map held old mid leaf has.stays.same (has.loaded told))) told it place whole is there has.from lt (has.copied told it whole is there)
+
+  -- rows that lie whole in their cells were copied, and the pages are as they were
+  pub whole_copied : (old mid : P) (leaf place at to len : ℕ) (rows new_rows : List BatchRow) (bytes new_bytes : List ℕ) → HasCopied below tells limits map count failures held old mid leaf place at rows bytes
+      → at < len → at ≤ to → (IsTrue (tells (below old)) → CountsRows (map old) (limits (below old)).page leaf (Ok len))
+      → (IsTrue (tells (below mid)) → held mid ≡ page_at (map mid) leaf → GoesOn (map mid) (limits (below mid)).page leaf at rows bytes new_rows new_bytes (Ok to))
+      → HasCopied below tells limits map count failures held old mid leaf place to new_rows new_bytes
+  whole_copied old mid leaf place at to len rows new_rows bytes new_bytes has lt le counts goes = record {
+    stays = has.stays;
+    from = omega (arith, has.from, le);
+    loaded = has.loaded;
+    copied = λ told it whole is there.
+        (let counted = counts told it whole is there in
+        gone_on old mid leaf place at rows new_rows bytes new_bytes (Ok to) has goes told it whole is there (omega (arith, lt, counted)));
+  }

@@ -62,6 +62,7 @@ pub mod Coming
 pub mod LeafRows
 pub mod FoundRows
 mod Batches
+mod ShortRows
 mod Scans
 mod Batching
 mod Lasts

@@ -134,7 +134,7 @@ pub fn read_row<P: Pages>(pages: &mut P, leaf: u32, place: usize, out: &mut Vec<
 }
 
 /// Like `read_row`, with the leaf loaded afterwards.
-fn read_long_row<P: Pages>(pages: &mut P, leaf: u32, place: usize, out: &mut Vec<u8>) -> R<i64>
+pub fn read_long_row<P: Pages>(pages: &mut P, leaf: u32, place: usize, out: &mut Vec<u8>) -> R<i64>
     ensures read { IsTrue (P.Pages.tells (P.Pages.below pages.old))
         → ReadsRow (P.Pages.map pages.old) (P.Pages.limits (P.Pages.below pages.old)).page leaf
         place out.old.items out.new.items result }

@@ -1,16 +1,23 @@
 //! Reading a tree's rows in order.
 
-ghost use Rattle.std.specs.Prelude.{◌≡◌, ◌<◌, ◌-◌, [], length, slice_index_or, take, drop, Some, IsTrue, IfOk, OnOk};
-ghost use Rattle.tree_leaf.specs.Leaf.{Entry};
+ghost use Rattle.std.specs.Prelude.{◌≡◌, ◌<◌, ◌≤◌, ◌+◌, ◌-◌, ◌^◌, ◌++◌, [], ◌∷◌, List, length, slice_index_or, take, drop, Some, IsTrue, IfOk, IfErr, OnOk};
+ghost use Rattle.sqlval.specs.Faults.{IsNotDiskFault};
 ghost use Rattle.pages.specs.Calls.{Stays};
+ghost use Rattle.pages.specs.Counting as counting;
+ghost use Rattle.pages.specs.Map.{page_at};
+ghost use Rattle.tree_leaf.specs.Leaf.{Entry};
+ghost use Rattle.tree_page.specs.Reading.{row_of};
 ghost use Rattle.tree_table.specs.Scanning.{BeginsAll, CopiesRows, GivesBatch, GivesLeaf, IsForward, IsNextOf, entries_from, entry_in, start_at};
+ghost use Rattle.tree_table.specs.Scanning.{AreBatched, CopiesShort, GoesOn, whole_row};
 
-use crate::reading::{count_rows, read_next_row};
+use crate::leaf::{at_page, start_of};
+use crate::reading::{count_rows, read_long_row};
 use crate::way::find_leaf;
 use pages::Pages;
-use sqlval::R;
+use sqlval::{Fault, R};
 use std::alloc::Global;
 use std::marker::Model;
+use tree_page::{Row, TreePage};
 
 /// A row of a batch: its rowid, and where its payload ends in the batch's bytes.
 #[derive(Clone, Copy)]
@@ -81,7 +88,97 @@ fn nth_entry<'a>(rows: &[BatchRow], bytes: &'a [u8], index: usize) -> BatchEntry
     entry_at(rows[index], bytes, start_in(rows, index))
 }
 
-/// Reads the rows of a leaf from a place on, in place of these rows and bytes. (What `count_rows` and `read_next_row` refuse.)
+/// Puts a row behind those of a batch. (`Memory`.)
+fn put_row(row: Row<'_>, rows: &mut Vec<BatchRow>, out: &mut Vec<u8>) -> R<()>
+    ensures put { (entries : List Entry) → AreBatched entries rows.old.items out.old.items
+        → OnOk result (AreBatched (entries ++ whole_row (row_of row.entry) ∷ []) rows.new.items out.new.items) }
+    ensures memory { IfErr result (λ fault. fault ≡ Fault.Memory) }
+{
+    out.extend_from_slice(row.payload.bytes)?;
+    let end = out.len();
+    rows.push(BatchRow {
+        rowid: row.rowid,
+        end,
+    })?;
+    Ok(())
+}
+
+/// Puts the rows of a leaf of these bytes from a place on behind those of a batch, up to the first whose payload has more than `most` bytes, and
+/// answers its place, or that of the end. (`Memory`; `Damaged` for one that is no page of a tree, or whose rows aren't there.)
+fn copy_short_rows(
+    bytes: &[u8],
+    leaf: u32,
+    most: usize,
+    place: usize,
+    rows: &mut Vec<BatchRow>,
+    out: &mut Vec<u8>,
+) -> R<usize>
+    ensures copied { CopiesShort bytes.now (counting.start_of leaf) most place rows.old.items out.old.items
+        rows.new.items out.new.items result }
+    ensures forward { IfOk result (λ to. place ≤ to) }
+    ensures not_disk { IfErr result IsNotDiskFault }
+{
+    let page = TreePage::over(bytes, start_of(leaf))?;
+    let len = page.len();
+    let mut at = place;
+    'rows: while at < len {
+        let row = page.row(at)?;
+        if row.payload.size > most as u64 {
+            return Ok(at);
+        }
+        put_row(row, rows, out)?;
+        at += 1;
+    }
+    Ok(at)
+}
+
+/// Like `copy_short_rows`, of a leaf that was loaded last: up to the first row with a chain.
+fn copy_whole_rows<P: Pages>(
+    pages: &P,
+    leaf: u32,
+    place: usize,
+    rows: &mut Vec<BatchRow>,
+    out: &mut Vec<u8>,
+) -> R<usize>
+    ensures copied { IsTrue (P.Pages.tells (P.Pages.below pages.now))
+        → P.Pages.held pages.now ≡ page_at (P.Pages.map pages.now) leaf
+        → GoesOn (P.Pages.map pages.now) (P.Pages.limits (P.Pages.below pages.now)).page leaf place
+        rows.old.items out.old.items rows.new.items out.new.items result }
+    ensures forward { IfOk result (λ to. place ≤ to) }
+    ensures not_disk { IfErr result IsNotDiskFault }
+{
+    let most = pages.page_size().saturating_sub(35);
+    match copy_short_rows(pages.loaded(), leaf, most, place, rows, out) {
+        Ok(to) => Ok(to),
+        Err(fault) => Err(at_page(fault, leaf)),
+    }
+}
+
+/// Puts a row of a leaf behind those of a batch, whatever pages its payload lies on, and answers the place after it. The leaf is loaded
+/// afterwards. (`Memory`; what `read_long_row` refuses.)
+fn copy_long_row<P: Pages>(
+    pages: &mut P,
+    leaf: u32,
+    place: usize,
+    rows: &mut Vec<BatchRow>,
+    out: &mut Vec<u8>,
+) -> R<usize>
+    requires { place + 1 < 2 ^ 64 }
+    ensures copied { IsTrue (P.Pages.tells (P.Pages.below pages.old))
+        → GoesOn (P.Pages.map pages.old) (P.Pages.limits (P.Pages.below pages.old)).page leaf place
+        rows.old.items out.old.items rows.new.items out.new.items result }
+    ensures next { IfOk result (λ to. to ≡ place + 1) }
+    ensures held { IsTrue (P.Pages.tells (P.Pages.below pages.old))
+        → OnOk result (P.Pages.held pages.new ≡ page_at (P.Pages.map pages.old) leaf) }
+    ensures stays { Stays P.Pages.below P.Pages.map P.Pages.count P.Pages.failures result pages.old pages.new }
+{
+    let rowid = read_long_row(pages, leaf, place, out)?;
+    let end = out.len();
+    rows.push(BatchRow { rowid, end })?;
+    Ok(place + 1)
+}
+
+/// Reads the rows of a leaf from a place on, in place of these rows and bytes. (What `count_rows` and `read_long_row` refuse.)
 fn copy_rows<P: Pages>(
     pages: &mut P,
     leaf: u32,
@@ -97,10 +194,14 @@ fn copy_rows<P: Pages>(
     rows.clear();
     bytes.clear();
     let len = count_rows(pages, leaf)?;
-    'rows: for at in place..len {
-        let rowid = read_next_row(pages, leaf, at, bytes)?;
-        let end = bytes.len();
-        rows.push(BatchRow { rowid, end })?;
+    rows.reserve(len.saturating_sub(place))?;
+    bytes.reserve(pages.page_size())?;
+    let mut at = place;
+    'rows: while at < len {
+        at = copy_whole_rows(pages, leaf, at, rows, bytes)?;
+        if at < len {
+            at = copy_long_row(pages, leaf, at, rows, bytes)?;
+        }
     }
     Ok(())
 }
@@ -139,7 +240,7 @@ impl Batch {
         self.bytes.clear();
     }
 
-    /// Reads the rows of a leaf from a place on, in place of those that the batch has. (What `read_next_row` refuses.)
+    /// Reads the rows of a leaf from a place on, in place of those that the batch has. (What `copy_rows` refuses.)
     fn fill<P: Pages>(&mut self, pages: &mut P, leaf: u32, place: usize) -> R<()>
         ensures copied { IsTrue (P.Pages.tells (P.Pages.below pages.old))
             → CopiesRows (P.Pages.map pages.old)
@@ -162,7 +263,7 @@ fn next_of(key: Option<i64>) -> Option<i64>
 }
 
 /// Reads the rows of the leaf where a rowid belongs, from that rowid on, in place of those that the batch has. Answers where the rows
-/// after them begin. (What `find_leaf` and `read_next_row` refuse.)
+/// after them begin. (What `find_leaf` and `copy_rows` refuse.)
 fn next_leaf<P: Pages>(pages: &mut P, root: u32, next: i64, batch: &mut Batch) -> R<Option<i64>>
     ensures given { IsTrue (P.Pages.tells (P.Pages.below pages.old))
         → GivesLeaf (P.Pages.map pages.old) (P.Pages.limits (P.Pages.below pages.old)).page root
