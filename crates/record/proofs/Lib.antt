@@ -5,3 +5,4 @@ pub mod InPlace
 pub mod WritingLemmas
 pub mod ShortestLemmas
 pub mod Vectors
+pub mod RowChecks

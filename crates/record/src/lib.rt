@@ -15,12 +15,14 @@
 //! | odd, from 13 on: n | (n - 13) / 2 | a text in UTF-8 |
 #![tactic(auto)]
 
+mod checking;
 mod columns;
 mod field;
 mod row;
 mod varint;
 mod writing;
 
+pub use checking::check_record;
 pub use columns::{Fields, read_fields, records_hold_their_values, value_at, values_of};
 pub use field::{Wrong, read_field};
 pub use row::{Record, bytes_determine_values, halves_of, records_are_read};

@@ -7,19 +7,18 @@ use Rattle.std.proofs.lemmas.List.{append-nil, length-map, length-replicate, tak
 use Rattle.std.proofs.lemmas.List.Elements.{All-from_recursion, recursion_from_All}
 use Rattle.std.specs.List.{AllByRecursion, list_all}
 use Rattle.std.specs.Ordering.{int_cmp}
-use Rattle.std.specs.Prelude.{All, Result, replicate, nat_le, ⊤}
+use Rattle.std.specs.Prelude.{Result, replicate, nat_le, ⊤}
 use Rattle.std.specs.Str.Lossy.{utf8_valid_len}
 use Rattle.sqlval.specs.Conversion.{is_word}
 use Rattle.sqlval.specs.Faults.{IsOutside}
-use Rattle.sqlval.specs.Gives.{Refuses}
 use Rattle.sqlval.specs.Lists.{is_rising}
 use Rattle.sqlval.specs.declared.affinity.Affinity.TheVariants as to
 use Rattle.sqlval.specs.declared.collation.Collation.TheVariants.{Binary}
 use Rattle.sqlval.specs.declared.fault.Fault.{Fault}
-use Rattle.sqlval.specs.declared.fault.Fault.TheVariants.{Memory}
 use Rattle.sqlval.specs.declared.value.Value.{Value}
 use Rattle.sqlval.specs.declared.value.Value.TheVariants.{Null, Int, Text, Blob}
 use Rattle.record.specs.Record.{IsRecord}
+use Rattle.record.specs.Rows.{AreOfRow}
 use Rattle.record.specs.Writing.{IsStorable}
 use Rattle.record.proofs.VarintLemmas.{AreBytes}
 use Rattle.tree_leaf.specs.Leaf.{Entry}
@@ -34,11 +33,10 @@ use Rattle.catalog.specs.Rows.{holds_rowid, in_record, is_row, is_value}
 use Rattle.catalog.specs.declared.tables.Column.{Column}
 use Rattle.catalog.specs.declared.tables.RowShape.{RowShape}
 use Rattle.catalog.specs.declared.tables.Table.{Table}
-use Rattle.row_scan.specs.Answers.{row_at}
-use Rattle.row_scan.specs.Rows.{IsRow, TableRow, has_null_at}
+use Rattle.row_scan.specs.Rows.{IsRow, TableRow}
 use Rattle.row_scan.specs.Trees.{AreFitRows, HasRows, HoldsFit, IsFitRow, FindsFit}
-use Rattle.row_scan.proofs.OwnValues.{as_read, as_written, held_within, read_values, written_again, written_null, written_values}
-use Rattle.row_scan.proofs.RowLemmas.{only_memory, ok_is, row_again, row_is}
+use Rattle.row_scan.proofs.OwnValues.{as_read, held_within, read_values, written_length, written_null, written_values}
+use Rattle.row_scan.proofs.RowLemmas.{row_is}
 use Rattle.row_scan.proofs.RowOrder.{both_true, record_holds, rowids_rise}
 use Rattle.row_scan.proofs.TreeOrder.{tree_rises}
 
@@ -47,19 +45,13 @@ use Rattle.row_scan.proofs.TreeOrder.{tree_rises}
 word_in : (n : ℤ) → SFits w64 n → is_word n ≡ true
 word_in n fits = grind (arith, ints)
 
--- what was read of an entry of bytes, with the rowid at its own place
-pub fit_row : (shape : RowShape) (entry : Entry) (row : TableRow) → AreBytes entry.payload → SFits w64 entry.rowid → All IsStorable row.1 → has_null_at shape.own row.1 ≡ true
-    → row_at shape.width entry ≡ Ok row → IsFitRow shape entry (as_read shape.own row)
-fit_row shape entry row bytes fits can null reads =
-    let is = row_is shape entry row bytes null reads in
-    let word : is_word row.0 ≡ true = ap is_word (sym is.rowid) ∙ word_in entry.rowid fits in
-    let said : IsRecord entry.payload row.1 = subst (IsRecord entry.payload) (written_again shape.own (Int row.0) row.1 null) is.values in
-    let values : list_all is_value row.1 ≡ true = record_holds entry.payload row.1 bytes (recursion_from_All IsStorable row.1 can) said in
-    record { is = is; word = word; values = read_values shape.own row.0 row.1 word values null }
-
--- a fit row is refused only when out of memory
-pub fit_read : (shape : RowShape) (entry : Entry) (row : TableRow) (fault : Fault) → IsFitRow shape entry row → Refuses fault (row_at shape.width entry) → fault ≡ Memory
-fit_read shape entry row fault is refuses = only_memory fault (as_written shape.own row) (subst (λ r. Refuses fault r) (row_again shape entry row is.is) refuses)
+-- an entry of bytes whose payload is the record of values of a row, with the rowid at its own place
+pub fit_row : (shape : RowShape) (entry : Entry) (values : List Value) → AreBytes entry.payload → SFits w64 entry.rowid → IsRecord entry.payload values → AreOfRow shape.width shape.own values
+    → IsFitRow shape entry (as_read shape.own (entry.rowid, values))
+fit_row shape entry values bytes fits is are =
+    let word : is_word entry.rowid ≡ true = word_in entry.rowid fits in
+    let said : list_all is_value values ≡ true = record_holds entry.payload values bytes (recursion_from_All IsStorable values are.storable) is in
+    record { is = row_is shape entry values is are; word = word; values = read_values shape.own entry.rowid values word said are.null }
 
 first_of : (a b : Bool) → (a && b) ≡ true → a ≡ true
 first_of true b e = refl
@@ -82,16 +74,13 @@ all_storable : (values : List Value) → list_all is_value values ≡ true → A
 all_storable [] e = tt
 all_storable (value ∷ values) e = (storable value (first_of (is_value value) (list_all is_value values) e), all_storable values (second_of (is_value value) (list_all is_value values) e))
 
--- each value of a fit row can be stored
-pub fit_storable : (shape : RowShape) (entry : Entry) (row other : TableRow) → IsFitRow shape entry row → row_at shape.width entry ≡ Ok other → All IsStorable other.1
-fit_storable shape entry row other is reads =
-    subst (λ (r : TableRow). All IsStorable r.1) (ok_is (sym (row_again shape entry row is.is) ∙ reads))
-    (All-from_recursion IsStorable (in_record shape.own row.1) (all_storable (in_record shape.own row.1) (written_values shape.own row.1 is.values)))
-
--- and its record has NULL at the rowid's own place
-pub fit_null : (shape : RowShape) (entry : Entry) (row other : TableRow) → IsFitRow shape entry row → row_at shape.width entry ≡ Ok other → has_null_at shape.own other.1 ≡ true
-fit_null shape entry row other is reads =
-    subst (λ (r : TableRow). has_null_at shape.own r.1 ≡ true) (ok_is (sym (row_again shape entry row is.is) ∙ reads)) (written_null shape.own row.0 row.1 is.is.own)
+-- the record of a fit row has values of a row
+pub fit_given : (shape : RowShape) (entry : Entry) (row : TableRow) → IsFitRow shape entry row → AreOfRow shape.width shape.own (in_record shape.own row.1)
+fit_given shape entry row is = record {
+  full = written_length shape.own row.1 ∙ is.is.full;
+  storable = All-from_recursion IsStorable (in_record shape.own row.1) (all_storable (in_record shape.own row.1) (written_values shape.own row.1 is.values));
+  null = written_null shape.own row.0 row.1 is.is.own;
+}
 
 -- ---- a batch
 

@@ -12,7 +12,8 @@ use Rattle.sqlval.specs.declared.value.Value.TheVariants.{Null, Int, Text, Blob}
 use Rattle.catalog.specs.Listed.{place_within}
 use Rattle.catalog.specs.Rows.{holds_rowid, in_record, is_value}
 use Rattle.query_terms.specs.Stored.{with_at, with_own}
-use Rattle.row_scan.specs.Rows.{TableRow, has_null_at}
+use Rattle.record.specs.Rows.{has_null_at}
+use Rattle.row_scan.specs.Rows.{TableRow}
 
 -- a row as it is read, of what its record says
 abbrev pub as_read : Option ℕ → TableRow → TableRow

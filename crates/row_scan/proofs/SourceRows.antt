@@ -23,7 +23,7 @@ use Rattle.query_names.specs.declared.queries.BoundSource.{BoundSource}
 use Rattle.row_scan.specs.Answers.{◌and◌, every, left, with_front}
 use Rattle.row_scan.specs.Rows.{IsRow, TableRow}
 use Rattle.row_scan.specs.Sources.{GivesShown, LoadsShown, as_held, as_source, as_shown, shown_at, shown_in, shown_source}
-use Rattle.row_scan.proofs.Calm.{rows_calm}
+use Rattle.row_scan.proofs.Calm.{memory_calm}
 use Rattle.row_scan.proofs.OwnValues.{again_read}
 use Rattle.row_scan.proofs.RowLemmas.{no_row, ok_is}
 use Rattle.row_scan.proofs.Steps.{refused_so}
@@ -87,7 +87,7 @@ front_held shown own front entries = ap (with_front front) (every_held shown own
 -- only for want of memory is a row not added
 pub left_calm : (shown : Option (List Place)) (own : Option ℕ) (entries : List Entry) (front : List Row) (fault : Fault) → Refuses fault (left (shown_at shown own) entries front) → IsNotDiskFault fault
 left_calm shown own entries front fault refuses = elim (refused_so fault (left (shown_at shown own) entries front) refuses) [
-  | inl memory ↦ rows_calm fault (inl memory)
+  | inl memory ↦ memory_calm fault memory
   | inr is ↦ absurd (no_both (front ++ map (as_shown shown own) entries) fault (sym (front_held shown own front entries) ∙ is))
 ]
 

@@ -1,9 +1,7 @@
 -- The rows of a table.
-use Rattle.std.specs.Prelude.{◌≡◌, Bool, true, false, ℕ, ℤ, List, length, Option, Some, None, slice_get}
+use Rattle.std.specs.Prelude.{◌≡◌, true, ℤ, List, length}
 use Rattle.smallvec.specs.SmallVec.{SmallVec}
-use Rattle.sqlval.specs.Sameness.{is_same_value}
 use Rattle.sqlval.specs.declared.value.Value.{Value}
-use Rattle.sqlval.specs.declared.value.Value.TheVariants.{Null}
 use Rattle.record.specs.Record.{IsRecord}
 use Rattle.tree_leaf.specs.Leaf.{Entry}
 use Rattle.catalog.specs.Rows.{holds_rowid, in_record}
@@ -24,8 +22,3 @@ pub record IsRow (shape : RowShape) (entry : Entry) (row : TableRow) : Type 0 wh
   pub values : IsRecord entry.payload (in_record shape.own row.1)
   pub full : length row.1 ≡ shape.width
   pub own : holds_rowid shape.own row ≡ true
-
--- the values of a record have NULL at the place of the rowid's own column, if there is one
-abbrev pub has_null_at : Option ℕ → List Value → Bool
-has_null_at None values = true
-has_null_at (Some place) values = elim (slice_get values place) [ None ↦ false | Some value ↦ is_same_value value Null ]

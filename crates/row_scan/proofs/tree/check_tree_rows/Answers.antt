@@ -1,8 +1,9 @@
-use Rattle.std.proofs.Common.{rules, ◌≡◌, Ok, None, inl}
+use Rattle.std.proofs.Common.{rules, ◌≡◌, Ok, None}
 use Rattle.std.specs.Prelude.{⊤}
 use Rattle.sqlval.specs.Faults.{IsOutside}
 use Rattle.pages.specs.Calls.{Stays}
 use Rattle.row_scan.proofs.FitTrees.{all_checked, batch_fails, batch_has, checked_on, none_checked}
+use Rattle.row_scan.proofs.RowLemmas.{not_done}
 use Rattle.row_scan.proofs.tree.check_tree_rows.Goals as goal
 
 pub batches-init : goal.batches-init
@@ -30,8 +31,7 @@ returns-in_err-check_batch-clause-only g c = λ told rows whole tree fit.
     (let gs = g.P.Pages in
     let have = batch_has gs.below gs.tells gs.limits gs.map gs.count gs.failures c.args.pages.now c.batches.pages c.args.table.root c.batches.cursor.root c.batches.cursor.next c.next_batch.new.self.next c.args.table.shape
     c.next_batch.new.batch c.batches.invariant c.in_ok-next_batch.ensures.given told rows whole tree fit in
-    let h : IsOutside c.in_err-check_batch.field-0.0 = inl (c.in_err-check_batch.ensures.only have.0 have.1) in
-    search rules)
+    absurd (not_done c.in_err-check_batch.field-0.0 (c.in_err-check_batch.ensures.only have.0 have.1)))
 
 pub returns-clause-found : goal.returns-clause-found
 returns-clause-found g c = λ told.
