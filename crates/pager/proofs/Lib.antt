@@ -1,8 +1,10 @@
 pub mod Backing
 pub mod CommitViews
 pub mod Ends
+pub mod FirstPieces
 pub mod HeaderFronts
 pub mod Headers
+pub mod Joining
 pub mod Leaving
 pub mod LeftOut
 pub mod Mapping
@@ -13,6 +15,7 @@ pub mod PartsBack
 pub mod Placing
 pub mod Reheading
 pub mod Restoring
+pub mod Searching
 pub mod Seeing
 pub mod Sighting
 pub mod Sounding

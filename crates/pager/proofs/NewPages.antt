@@ -1,10 +1,10 @@
 -- Which of a writer's changes its snapshot doesn't show, and what a writer of these alone sees.
-use Rattle.std.proofs.Common.{◌≡◌, ◌⊎◌, inl, inr, ◌<◌, ◌≤◌, ◌+◌, ℕ, List, [], ◌∷◌, ◌++◌, length, refl, sym, ◌∙◌, ap, subst, arith, replicate, Bool, true, false}
+use Rattle.std.proofs.Common.{◌≡◌, ◌⊎◌, inl, inr, ◌<◌, ◌≤◌, ◌+◌, ℕ, List, [], ◌∷◌, ◌++◌, length, drop, get_or, refl, sym, ◌∙◌, ap, subst, arith, replicate, Bool, true, false}
 use Rattle.std.specs.Cmp.Lexicographic.{pointwise, told_text}
 use Rattle.std.specs.Prelude.{◌↔◌, ◌≢◌, MatchBool, nat_eq, Result, Ok, Err, IfOk, IfErr, IsErrAnd, OnOk, nat_lt, if◌then◌else◌}
 use Rattle.std.specs.List.{AllByRecursion}
 use Rattle.std.proofs.lemmas.Bool.{cases_eq, false≢true}
-use Rattle.std.proofs.lemmas.List.{append_assoc, append-nil}
+use Rattle.std.proofs.lemmas.List.{append_assoc, append-nil, drop_more}
 use Rattle.disk.specs.File.{File}
 use Rattle.disk.specs.declared.device.Disk.{Ghosts}
 use Rattle.sqlval.specs.Faults.{IsOutside}
@@ -265,6 +265,11 @@ all_stamped (p ∷ ps) = (omega arith, all_stamped ps)
 pub none_older : (ts : List ℕ) → older_than 0 ts ≡ 0
 none_older [] = refl
 none_older (t ∷ ts) = grind (arith, none_older ts)
+
+-- ---- what is left from a place on
+
+pub left_more : (ps : List PageImage) (i : ℕ) (p : PageImage) → i < length ps → p ≡ get_or ps i p → drop i ps ≡ p ∷ drop (i + 1) ps
+left_more ps i p lt is = drop_more ps i p lt ∙ ap (λ (q : PageImage). q ∷ drop (i + 1) ps) (sym is)
 
 -- ---- the loops
 

@@ -1,5 +1,5 @@
 -- Why a commit is refused, and what a header on the first page changes of what a writer sees.
-use Rattle.std.proofs.Common.{◌≡◌, ◌⊎◌, inl, inr, ℕ, suc, List, [], ◌∷◌, Bool, true, false, length, refl, sym, ◌∙◌, ap, subst, arith}
+use Rattle.std.proofs.Common.{◌≡◌, ◌⊎◌, inl, inr, ℕ, ◌<◌, ◌++◌, suc, List, [], ◌∷◌, Bool, true, false, length, refl, sym, ◌∙◌, ap, subst, arith}
 use Rattle.std.specs.Prelude.{IsTrue, IsFalse}
 use Rattle.sqlval.specs.declared.fault.Fault.{Fault}
 use Rattle.sqlval.specs.declared.fault.Fault.TheVariants.{Memory, Io, NotADatabase, Unsupported, Damaged, Full, Syntax, NoSuch, Exists, Ambiguous, Misuse, Busy, StaleSnapshot, NoTransaction, InTransaction, NoSavepoint, NotNull, Unique, Check, Raised, RealRefused, TypeRefused, RowidFull, RowidMismatch, TooLong, RowChangedBefore, ViewReadOnly, Failed, Blank, Journal}
@@ -15,7 +15,7 @@ use Rattle.wal.specs.Refusals.{IsCommitRefusal}
 use Rattle.pager.specs.declared.writer.Writer.{Writer}
 use Rattle.pager.specs.Limits.{pages_of, page_size_of}
 use Rattle.pager.specs.Views.{View, ViewHas, changes_of}
-use Rattle.pager.specs.Writers.{BeginAtPageOne, HasHeader, IsHeaded, IsConsistent, Reheads, makes_objects, seen, snapshot_of}
+use Rattle.pager.specs.Writers.{BeginAtPageOne, FirstIsBytes, HasHeader, IsHeaded, IsConsistent, Reheads, SetsFirst, makes_objects, seen, snapshot_of}
 use Rattle.pager.proofs.Seeing.{first_not_missing, seen_from, seen_to}
 use Rattle.pager.proofs.WriterPages.{among_and_not, others}
 
@@ -206,3 +206,36 @@ module _ (view : View) (old new : Writer) (h : Header) (re : IsReheaded old new 
 
   pub reheaded_first : (page : List ℕ) → ViewHas (seen view old) 1 page → IsFirst (changes_of new) page h
   reheaded_first page has = first_page (pages_of old) (page_size_of old) (changes_of old) (changes_of new) h page was.pages was.first re.pages (first_among view old page was has)
+
+-- a writer with the same pages
+pub reheaded_same : (old mid new : Writer) (h : Header) → IsReheaded old mid h → changes_of new ≡ changes_of mid
+    → (pages_of new ≡ pages_of mid) × (page_size_of new ≡ page_size_of mid) × (snapshot_of new ≡ snapshot_of mid) × (makes_objects new ≡ makes_objects mid) → IsReheaded old new h
+reheaded_same old mid new h re pages rest = record {
+  pages = subst (λ (ps : List PageImage). Reheads (changes_of old) ps h) (sym pages) re.pages;
+  rest = (rest.0 ∙ re.rest.0, rest.1 ∙ re.rest.1, rest.2 ∙ re.rest.2, rest.3 ∙ re.rest.3);
+}
+
+-- ---- pages in pieces
+
+pub reheads_in : (ps qs rest : List PageImage) (h : Header) → 0 < length ps → Reheads ps qs h → Reheads (ps ++ rest) (qs ++ rest) h
+reheads_in [] qs rest h some re = absurd (omega (arith, some))
+reheads_in (p ∷ ps) [] rest h some re = absurd re
+reheads_in (p ∷ ps) (q ∷ qs) rest h some re = (re.0, re.1, ap (λ xs. xs ++ rest) re.2)
+
+pub sets_in : (ps qs rest : List PageImage) → 0 < length ps → SetsFirst ps qs → SetsFirst (ps ++ rest) (qs ++ rest)
+sets_in [] qs rest some sets = absurd (omega (arith, some))
+sets_in (p ∷ ps) [] rest some sets = absurd sets
+sets_in (p ∷ ps) (q ∷ qs) rest some sets = (sets.0, sets.1, ap (λ xs. xs ++ rest) sets.2)
+
+pub header_in : (ps rest : List PageImage) (h : Header) → 0 < length ps → HasHeader (ps ++ rest) h → HasHeader ps h
+header_in [] rest h some has = absurd (omega (arith, some))
+header_in (p ∷ ps) rest h some has = has
+
+pub bytes_in : (ps rest : List PageImage) → 0 < length ps → FirstIsBytes ps → FirstIsBytes (ps ++ rest)
+bytes_in [] rest some are = absurd (omega (arith, some))
+bytes_in (p ∷ ps) rest some are = are
+
+pub sets_same_length : (ps qs : List PageImage) → SetsFirst ps qs → length qs ≡ length ps
+sets_same_length [] qs sets = ap length sets
+sets_same_length (p ∷ ps) [] sets = absurd sets
+sets_same_length (p ∷ ps) (q ∷ qs) sets = ap (λ xs. suc (length xs)) sets.2

@@ -64,6 +64,15 @@ pub record IsReset (old new : Writer) : Type 0 where
   pub saved : new.saved ≡ old.saved
   pub marks : new.marks ≡ old.marks
 
+-- a writer with the same pages
+pub reset_same : (old mid new : Writer) → IsReset old mid → changes_of new ≡ changes_of mid → (new.saved ≡ mid.saved) × (new.marks ≡ mid.marks) → IsReset old new
+reset_same old mid new is pages log = record {
+  first = subst (SetsFirst (changes_of old)) (sym pages) is.first;
+  bytes = is.bytes;
+  saved = log.0 ∙ is.saved;
+  marks = log.1 ∙ is.marks;
+}
+
 module _ (writer mid left : Writer) (header : Header) (has : HasHeader (changes_of writer) header) (one : IsReset writer mid) (two : IsReset mid left) (again : Reheads (changes_of writer) (changes_of left) header) where
   changes_again : changes_of left ≡ changes_of writer
   changes_again = restored (changes_of writer) (changes_of mid) (changes_of left) header has one.bytes again one.first two.first

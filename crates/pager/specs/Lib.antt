@@ -2,6 +2,7 @@ pub mod Commits
 pub mod Limits
 pub mod Maps
 pub mod Marks
+pub mod Pieces
 pub mod Pruning
 pub mod Sights
 pub mod Sound

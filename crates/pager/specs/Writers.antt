@@ -108,6 +108,16 @@ EndsWithin size [] = ⊥
 EndsWithin size (p ∷ []) = p.number ≤ size
 EndsWithin size (p ∷ q ∷ ps) = EndsWithin size (q ∷ ps)
 
+-- there are pages, and the number of the last one is at least this
+abbrev pub EndsFrom : ℕ → List PageImage → Type 0
+EndsFrom number [] = ⊥
+EndsFrom number (p ∷ []) = number ≤ p.number
+EndsFrom number (p ∷ q ∷ ps) = EndsFrom number (q ∷ ps)
+
+-- each of these pages has a smaller number
+abbrev pub AreBelow : ℕ → List PageImage → Type 0
+AreBelow number = AllByRecursion (λ (p : PageImage). p.number < number)
+
 -- the first of these pages has this header
 abbrev pub HasHeader : List PageImage → Header → Type 0
 HasHeader [] header = ⊥

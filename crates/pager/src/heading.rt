@@ -5,6 +5,7 @@ ghost use Rattle.sqlval.specs.PageSizes.{IsPageSize};
 ghost use Rattle.db_header.specs.Writing.{IsBytes};
 ghost use Rattle.pager.specs.Writers.{FirstIsBytes, HasHeader, IsHeaded, IsInPlace, Reheads, SetsFirst};
 
+use crate::pieces::{Pieces, spot_of};
 use db_header::Header;
 use wal::PageImage;
 
@@ -30,8 +31,8 @@ fn give_header(page: &mut PageImage, header: &Header)
     put_front(page.bytes.as_mut_slice(), &db_header::write(header));
 }
 
-/// Writes a header at the front of the first of some pages.
-pub fn rehead(pages: &mut Vec<PageImage>, header: &Header)
+/// Writes a header at the front of the first page of a piece.
+fn rehead_piece(pages: &mut Vec<PageImage>, header: &Header)
     requires { IsPageSize header.now.page_size }
     ensures reheads { (old : Header) → HasHeader pages.old.items old
         → Reheads pages.old.items pages.new.items header.now }
@@ -40,5 +41,19 @@ pub fn rehead(pages: &mut Vec<PageImage>, header: &Header)
 {
     if let Some(page) = pages.first_mut() {
         give_header(page, header);
+    }
+}
+
+/// Writes a header at the front of the first of some pages.
+pub fn rehead(pages: &mut Pieces<PageImage>, header: &Header)
+    requires { IsPageSize header.now.page_size }
+    ensures reheads { (old : Header) → HasHeader pages.old.items old
+        → Reheads pages.old.items pages.new.items header.now }
+    ensures first { SetsFirst pages.old.items pages.new.items }
+    ensures bytes { FirstIsBytes pages.old.items }
+{
+    if pages.len() > 0 {
+        let first = spot_of(&pages.pieces, 0).piece;
+        rehead_piece(&mut pages.pieces[first], header);
     }
 }

@@ -5,6 +5,7 @@ mod heading;
 mod laws;
 mod marks;
 mod parts;
+mod pieces;
 mod pruning;
 mod reading;
 mod restarting;

@@ -10,8 +10,7 @@ ghost use Rattle.pager.specs.Writers.{DiffersInPages, IsAt, IsGapFor};
 
 use crate::parts::copy_part;
 use crate::saved::{
-    Mark, Saved, exchange, fill_part, insert_stamped, leave_out, newest_stamp, part_back, put_back,
-    take_out,
+    Mark, Saved, fill_part, insert_stamped, leave_out, newest_stamp, part_back, put_back, take_out,
 };
 use crate::writer::Writer;
 use sqlval::{Fault, R};
@@ -117,7 +116,7 @@ impl Writer {
         ensures found { IsTrue result → IsSaved self.now index }
         ensures only { IsSaved self.now index → IsTrue result }
     {
-        self.stamps[index] >= newest_stamp(&self.marks)
+        *self.stamps.at(index) >= newest_stamp(&self.marks)
     }
 
     /// Gives a changed page another image. The one that it had at the newest mark is saved.
@@ -126,10 +125,10 @@ impl Writer {
         ensures pages { changes_of self.new ≡ set (changes_of self.old) index page }
         ensures rest { DiffersInPages self.old self.new }
     {
-        let stamp = self.stamps[index];
-        let old = exchange(&mut self.pages, index, page);
+        let stamp = *self.stamps.at(index);
+        let old = self.pages.replace(index, page);
         if stamp < newest_stamp(&self.marks) {
-            self.stamps[index] = self.stamp;
+            let _ = self.stamps.replace(index, self.stamp);
             let _ = self.saved.push(Saved::Changed(old, stamp));
         }
     }
@@ -151,10 +150,10 @@ impl Writer {
         ensures refused { IfErr result (λ fault. (fault ≡ Memory)
             × (changes_of self.new ≡ changes_of self.old)) }
     {
-        let number = self.pages[index].number;
+        let number = self.pages.at(index).number;
         let old = copy_part(
             alloc,
-            self.pages[index].bytes.as_slice(),
+            self.pages.at(index).bytes.as_slice(),
             offset,
             bytes.len(),
         )?;
@@ -165,7 +164,7 @@ impl Writer {
     }
 
     /// Puts a page in its gap. A refused one changes nothing.
-    pub(crate) fn insert_page(&mut self, index: usize, page: PageImage) -> R<()>
+    pub(crate) fn insert_page(&mut self, alloc: Global, index: usize, page: PageImage) -> R<()>
         requires { IsGapFor (changes_of self.old) page.number index }
         ensures pages { OnOk result (changes_of self.new ≡ insert (changes_of self.old) index page) }
         ensures rest { DiffersInPages self.old self.new }
@@ -173,11 +172,25 @@ impl Writer {
             × (changes_of self.new ≡ changes_of self.old)) }
     {
         if self.marks.is_empty() {
-            return insert_stamped(&mut self.pages, &mut self.stamps, index, page, self.stamp);
+            return insert_stamped(
+                alloc,
+                &mut self.pages,
+                &mut self.stamps,
+                index,
+                page,
+                self.stamp,
+            );
         }
         self.saved.reserve(self.pages.len() + 1)?;
         let number = page.number;
-        insert_stamped(&mut self.pages, &mut self.stamps, index, page, self.stamp)?;
+        insert_stamped(
+            alloc,
+            &mut self.pages,
+            &mut self.stamps,
+            index,
+            page,
+            self.stamp,
+        )?;
         let _ = self.saved.push(Saved::Added(number));
         Ok(())
     }

@@ -12,6 +12,7 @@ ghost use Rattle.pager.specs.Views.{Tells, changes_of, view_at};
 ghost use Rattle.pager.specs.Limits.{page_size_of, pages_of};
 ghost use Rattle.pager.specs.Writers.{makes_objects, snapshot_of};
 
+use crate::pieces::Pieces;
 use crate::sights::fill;
 use crate::writer::Writer;
 use disk::Disk;
@@ -47,7 +48,7 @@ fn is_shown<D: Disk + Drop>(
 fn is_one_shown<D: Disk + Drop>(
     log: &mut Log<D>,
     snapshot: Snapshot,
-    pages: &[PageImage],
+    pages: &Pieces<PageImage>,
     buffer: &mut Vec<u8>,
 ) -> R<bool>
     ensures kept { (state_of log.new ≡ state_of log.old)
@@ -55,17 +56,17 @@ fn is_one_shown<D: Disk + Drop>(
         × KeepsFile D.tells D.file (log_of log.old) (log_of log.new) }
     ensures cause { HasCause false result log.old log.new }
     ensures none { Tells log.old → seen_by snapshot ≤ (state_of log.old).frames
-        → IfOk result (λ is. is ≡ false → AreNew (view_at log.old snapshot) pages.now pages.now) }
+        → IfOk result (λ is. is ≡ false → AreNew (view_at log.old snapshot) pages.now.items pages.now.items) }
     ensures refused { Tells log.old → seen_by snapshot ≤ (state_of log.old).frames
         → AreAllThere (view_at log.old snapshot)
-        → AreNumbered pages.now → IfErr result IsOutside }
+        → AreNumbered pages.now.items → IfErr result IsOutside }
 {
-    let mut left = pages;
-    'pages: while let Some((page, rest)) = left.split_first() {
-        if is_shown(log, snapshot, page, buffer)? {
+    let mut place = 0;
+    'pages: while place < pages.len() {
+        if is_shown(log, snapshot, pages.at(place), buffer)? {
             return Ok(true);
         }
-        left = rest;
+        place += 1;
     }
     Ok(false)
 }
@@ -86,7 +87,7 @@ fn new_pages<D: Disk + Drop>(
     alloc: Global,
     log: &mut Log<D>,
     snapshot: Snapshot,
-    pages: &[PageImage],
+    pages: &Pieces<PageImage>,
     buffer: &mut Vec<u8>,
 ) -> R<Vec<PageImage>>
     ensures kept { (state_of log.new ≡ state_of log.old)
@@ -94,19 +95,20 @@ fn new_pages<D: Disk + Drop>(
         × KeepsFile D.tells D.file (log_of log.old) (log_of log.new) }
     ensures cause { HasCause false result log.old log.new }
     ensures new { Tells log.old → seen_by snapshot ≤ (state_of log.old).frames
-        → IfOk result (λ new. AreNew (view_at log.old snapshot) pages.now new.items) }
-    ensures some { IfOk result (λ new. AreSome pages.now new.items) }
+        → IfOk result (λ new. AreNew (view_at log.old snapshot) pages.now.items new.items) }
+    ensures some { IfOk result (λ new. AreSome pages.now.items new.items) }
     ensures refused { Tells log.old → seen_by snapshot ≤ (state_of log.old).frames
         → AreAllThere (view_at log.old snapshot)
-        → AreNumbered pages.now → IfErr result IsOutside }
+        → AreNumbered pages.now.items → IfErr result IsOutside }
 {
     let mut new = Vec::new(alloc);
-    let mut left = pages;
-    'pages: while let Some((page, rest)) = left.split_first() {
+    let mut place = 0;
+    'pages: while place < pages.len() {
+        let page = pages.at(place);
+        place += 1;
         if !is_shown(log, snapshot, page, buffer)? {
             new.push(copy_of(alloc, page)?)?;
         }
-        left = rest;
     }
     Ok(new)
 }
@@ -128,9 +130,9 @@ impl Writer {
             snapshot: self.snapshot,
             size: self.size,
             page_size: self.page_size,
-            pages,
+            pages: Pieces::from_vec(alloc, pages)?,
             has_new_objects: self.has_new_objects,
-            stamps,
+            stamps: Pieces::from_vec(alloc, stamps)?,
             saved: Vec::new(alloc),
             marks: Vec::new(alloc),
             stamp: 0,

@@ -5,6 +5,7 @@ ghost use Rattle.pager.specs.Undo.{IsKept, IsKept-prop, newest_stamp, older_than
 
 use crate::heading::rehead;
 use crate::parts::write_within;
+use crate::pieces::Pieces;
 use crate::reading::{header_of, read_page};
 use crate::restarting::begins_anew;
 use crate::saved::{Mark, Saved, ends_within, fill_part, place_of, refill};
@@ -13,7 +14,7 @@ use db_header::Header;
 use disk::Disk;
 use sqlval::limits::{MAX_DATABASE_BYTES, MAX_PAGES};
 use sqlval::{Damage, Fault, R};
-use std::alloc::Global;
+use std::alloc::{AllocError, Global};
 use wal::{Log, PageImage, Snapshot};
 
 /// How many changes may be saved before a part of a page is saved as the whole page.
@@ -25,10 +26,10 @@ pub struct Writer {
     pub(crate) snapshot: Snapshot,
     pub(crate) size: u32,
     pub(crate) page_size: u32,
-    pub(crate) pages: Vec<PageImage>,
+    pub(crate) pages: Pieces<PageImage>,
     pub(crate) has_new_objects: bool,
     /// For each page the greatest stamp that there was when it came, or when its image before was saved.
-    pub(crate) stamps: Vec<u64>,
+    pub(crate) stamps: Pieces<u64>,
     /// What pages were since the oldest mark, the newest last. It has room for each page that is older than the newest mark.
     pub(crate) saved: Vec<Saved>,
     pub(crate) marks: Vec<Mark>,
@@ -84,9 +85,9 @@ impl Writer {
             snapshot,
             size: log.size(snapshot),
             page_size: log.page_size(),
-            pages,
+            pages: Pieces::from_vec(alloc, pages)?,
             has_new_objects: false,
-            stamps,
+            stamps: Pieces::from_vec(alloc, stamps)?,
             saved: Vec::new(alloc),
             marks: Vec::new(alloc),
             stamp: 0,
@@ -114,7 +115,7 @@ impl Writer {
         ensures none { IsConsistent self.now → IfNone result (IsNotAmong (changes_of self.now) number) }
     {
         match self.search(number) {
-            Ok(index) => Some(self.pages[index].bytes.as_slice()),
+            Ok(index) => Some(self.pages.at(index).bytes.as_slice()),
             Err(_) => None,
         }
     }
@@ -174,8 +175,12 @@ impl Writer {
         let old = self.header()?;
         let new = self.next_header(&old);
         self.set_header(&new);
+        if self.join_pages(alloc).is_err() {
+            self.set_header(&old);
+            return Err(Fault::Memory);
+        }
         let restarts = begins_anew(log, may_restart);
-        if let Err(fault) = log.commit(alloc, &self.pages, self.size, restarts) {
+        if let Err(fault) = log.commit(alloc, self.pages.as_slice(), self.size, restarts) {
             self.set_header(&old);
             return Err(fault);
         }
@@ -230,6 +235,19 @@ impl Writer {
         rehead(&mut self.pages, header);
     }
 
+    /// Puts all pages into one piece. If out of memory, nothing changes.
+    fn join_pages(&mut self, alloc: Global) -> Result<(), AllocError>
+        ensures whole { OnOk result (IsTrue self.new.pages.is_whole) }
+        ensures pages { changes_of self.new ≡ changes_of self.old }
+        ensures rest { (pages_of self.new ≡ pages_of self.old)
+            × (page_size_of self.new ≡ page_size_of self.old)
+            × (snapshot_of self.new ≡ snapshot_of self.old)
+            × (makes_objects self.new ≡ makes_objects self.old) }
+        ensures log { (self.new.saved ≡ self.old.saved) × (self.new.marks ≡ self.old.marks) }
+    {
+        self.pages.join(alloc)
+    }
+
     /// The number of pages.
     pub(crate) fn size(&self) -> u32
         ensures { result ≡ pages_of self.now }
@@ -252,10 +270,10 @@ impl Writer {
     pub(crate) fn bytes_at(&self, index: usize) -> &[u8]
         ensures { result.now ≡ slice_index_or (bytes_of (changes_of self.now)) index [] }
     {
-        match self.pages.get(index) {
-            Some(page) => page.bytes.as_slice(),
-            None => &[],
+        if index >= self.pages.len() {
+            return &[];
         }
+        self.pages.at(index).bytes.as_slice()
     }
 
     /// Gives the changed page at a place these bytes. (`Damaged` where it had another length;
@@ -269,7 +287,7 @@ impl Writer {
         ensures there { IsConsistent self.old → IfErr result (λ fault. fault ≡ Memory) }
         ensures not_disk { IfErr result (λ fault. IsNotDiskFault fault) }
     {
-        if self.pages[index].bytes.len() != bytes.len() {
+        if self.pages.at(index).bytes.len() != bytes.len() {
             return Err(Fault::Damaged(Damage::Page, number));
         }
         if self.is_saved(index) {
@@ -290,7 +308,7 @@ impl Writer {
         ensures there { IsConsistent self.now → offset + count ≤ page_size_of self.now → IsTrue result }
     {
         let size = self.page_size();
-        if self.pages[index].bytes.len() != size {
+        if self.pages.at(index).bytes.len() != size {
             return false;
         }
         offset <= size && count <= size - offset
@@ -337,7 +355,7 @@ impl Writer {
         if self.saves_parts() {
             return self.replace_part(alloc, index, offset, bytes);
         }
-        let mut page = self.pages[index].bytes.as_slice().to_vec(alloc)?;
+        let mut page = self.pages.at(index).bytes.as_slice().to_vec(alloc)?;
         let _ = write_within(&mut page, offset, bytes);
         self.replace(
             index,
@@ -350,7 +368,7 @@ impl Writer {
     }
 
     /// Puts a page that the snapshot shows among the changed ones, at its place.
-    fn insert(&mut self, index: usize, page: PageImage) -> R<()>
+    fn insert(&mut self, alloc: Global, index: usize, page: PageImage) -> R<()>
         requires place { 1 ≤ index }
         requires gap { IsGapFor (changes_of self.old) page.number index }
         requires number { (1 ≤ page.number) × (page.number ≤ pages_of self.old)
@@ -362,7 +380,7 @@ impl Writer {
             (GetsPage page.number page.bytes.items self.old self.new) }
         ensures refused { IfErr result (λ fault. fault ≡ Memory) }
     {
-        self.insert_page(index, page)?;
+        self.insert_page(alloc, index, page)?;
         Ok(())
     }
 
@@ -389,7 +407,7 @@ impl Writer {
                     return Err(Fault::Damaged(Damage::Size, number));
                 }
                 let bytes = bytes.to_vec(alloc)?;
-                self.insert(index, PageImage { number, bytes })
+                self.insert(alloc, index, PageImage { number, bytes })
             }
         }
     }
@@ -414,7 +432,7 @@ impl Writer {
         let number = self.next_number()?;
         let bytes = vec![in alloc; 0; self.page_size()]?;
         let index = self.pages.len();
-        self.insert_page(index, PageImage { number, bytes })?;
+        self.insert_page(alloc, index, PageImage { number, bytes })?;
         self.size = number;
         Ok(number)
     }

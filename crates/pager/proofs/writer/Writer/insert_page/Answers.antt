@@ -26,15 +26,15 @@ invariant_of-self-2 c =
     let pages : c.insert_stamped-2.new.pages.items ≡ insert c.args.self.now.pages.items c.args.index c.args.page = search rules in
     let stamps : c.insert_stamped-2.new.stamps.items ≡ insert c.args.self.now.stamps.items c.args.index c.args.self.now.stamp = search rules in
     let saved : c.push.new.self.items ≡ c.args.self.now.saved.items ++ Added c.args.page.number ∷ [] = search rules in
-    let free : c.reserve.new.self.len + (c.args.self.now.pages.len + 1) ≤ vec_capacity c.reserve.new.self = search rules in
+    let free : c.reserve.new.self.len + (c.len.result + 1) ≤ vec_capacity c.reserve.new.self = search rules in
+    let pages_count = c.len.ensures.count in
     let even = kept_even _ _ _ _ _ c.args.self.now.kept in
-    let long = c.args.self.now.pages.ok.0 in
     let same = c.reserve.ensures.len in
     let count = c.args.self.now.saved.ok.0 in
     let grows = c.push.ensures.capacity in
     record {
       kept = kept_add _ _ _ _ _ _ _ _ c.args.index c.args.page c.args.self.now.kept c.requires saved pages stamps;
-      room = room_added _ _ c.args.self.now.stamps.items _ c.args.self.now.saved.items _ _ c.args.index _ (omega (arith, free, even, long, same, count, grows)) (newest_up_to _ _ _ _ _ c.args.self.now.kept) stamps saved;
+      room = room_added _ _ c.args.self.now.stamps.items _ c.args.self.now.saved.items _ _ c.args.index _ (omega (arith, free, pages_count, even, same, count, grows)) (newest_up_to _ _ _ _ _ c.args.self.now.kept) stamps saved;
     }
 
 pub returns-clause-rest : goal.returns-clause-rest

@@ -10,7 +10,7 @@ use Rattle.pager.proofs.writer.Writer.overwrite.Goals as goal
 
 pub returns-then-len-bytes-clause-there : goal.returns-then-len-bytes-clause-there
 returns-then-len-bytes-clause-there c whole =
-    let here : PageImage = c.index.result.now in
+    let here : PageImage = c.at.result.now in
     let there : here ≡ get_or (changes_of c.args.self.now) c.args.index here = search rules in
     let long = page_length 0 (pages_of c.args.self.now) (page_size_of c.args.self.now) (changes_of c.args.self.now) c.args.index here whole.pages c.requires.place.within in
     let old_long : length here.bytes.items ≡ page_size_of c.args.self.now = ap (λ (p : PageImage). length p.bytes.items) there ∙ long in
@@ -27,7 +27,7 @@ invariant_of-self c =
 
 pub returns-then-is_saved-clause-rest : goal.returns-then-is_saved-clause-rest
 returns-then-is_saved-clause-rest c =
-    let here : PageImage = c.index.result.now in
+    let here : PageImage = c.at.result.now in
     let there : here ≡ get_or (changes_of c.args.self.now) c.args.index here = search rules in
     let long : length here.bytes.items ≡ length c.args.bytes.now = search rules in
     let page = c.refill.ensures.page in
@@ -38,7 +38,7 @@ returns-then-is_saved-clause-rest c =
 
 pub returns-then-is_saved-clause-page : goal.returns-then-is_saved-clause-page
 returns-then-is_saved-clause-page c =
-    let here : PageImage = c.index.result.now in
+    let here : PageImage = c.at.result.now in
     let there : here ≡ get_or (changes_of c.args.self.now) c.args.index here = search rules in
     let long : length here.bytes.items ≡ length c.args.bytes.now = search rules in
     let page = c.refill.ensures.page in
@@ -49,7 +49,7 @@ returns-then-is_saved-clause-page c =
 
 pub returns-clause-rest : goal.returns-clause-rest
 returns-clause-rest c =
-    let here : PageImage = c.index.result.now in
+    let here : PageImage = c.at.result.now in
     let there : here ≡ get_or (changes_of c.args.self.now) c.args.index here = search rules in
     let long : length here.bytes.items ≡ length c.args.bytes.now = search rules in
     let items : c.in_ok-bytes.bytes.items ≡ c.args.bytes.now = search rules in
@@ -58,7 +58,7 @@ returns-clause-rest c =
 
 pub returns-clause-page : goal.returns-clause-page
 returns-clause-page c =
-    let here : PageImage = c.index.result.now in
+    let here : PageImage = c.at.result.now in
     let there : here ≡ get_or (changes_of c.args.self.now) c.args.index here = search rules in
     let long : length here.bytes.items ≡ length c.args.bytes.now = search rules in
     let items : c.in_ok-bytes.bytes.items ≡ c.args.bytes.now = search rules in

@@ -50,7 +50,7 @@ returns-then-saves_parts-clause-page c =
 pub returns-clause-rest : goal.returns-clause-rest
 returns-clause-rest c =
     let self = c.args.self.now in
-    let here : PageImage = c.index.result.now in
+    let here : PageImage = c.at.result.now in
     let is : here ≡ get_or (changes_of self) c.args.index here = search rules in
     let long : length here.bytes.items ≡ page_size_of self = ap (λ (p : PageImage). length p.bytes.items) is ∙ c.if-not-has_room.ensures.long refl here in
     let fits = c.if-not-has_room.ensures.fits refl in
@@ -62,7 +62,7 @@ returns-clause-rest c =
 pub returns-clause-page : goal.returns-clause-page
 returns-clause-page c =
     let self = c.args.self.now in
-    let here : PageImage = c.index.result.now in
+    let here : PageImage = c.at.result.now in
     let is : here ≡ get_or (changes_of self) c.args.index here = search rules in
     let long : length here.bytes.items ≡ page_size_of self = ap (λ (p : PageImage). length p.bytes.items) is ∙ c.if-not-has_room.ensures.long refl here in
     let fits = c.if-not-has_room.ensures.fits refl in

@@ -2,7 +2,7 @@ use Rattle.std.proofs.Common.{rules}
 use Rattle.std.proofs.lemmas.List.Sorted.{answers_always}
 use Rattle.wal.specs.declared.pages.PageImage.{PageImage}
 use Rattle.pager.proofs.Placing.{found, gap}
-use Rattle.pager.proofs.saved.place_of.Goals as goal
+use Rattle.pager.proofs.saved.page_in.Goals as goal
 
 pub returns-clause-found : goal.returns-clause-found
 returns-clause-found c =
