@@ -1,10 +1,10 @@
 -- A query that gives each row of its only source by itself.
-use Rattle.std.proofs.Common.{◌≡◌, inl, inr, refl, sym, ap, ◌∙◌, Bool, true, false, not, ◌&&◌, ◌||◌, List, [], ◌∷◌, ◌++◌, map, take, drop, Some, None, Ok, Err}
+use Rattle.std.proofs.Common.{◌≡◌, inl, inr, refl, sym, ap, ◌∙◌, true, false, not, ◌&&◌, ◌||◌, List, [], ◌∷◌, ◌++◌, map, take, drop, Some, None, Ok, Err}
 use Rattle.std.specs.Prelude.{if◌then◌else◌}
 use Rattle.std.proofs.lemmas.List.{append-nil, map-append}
 use Rattle.sqlval.specs.Flow.{Flow, collected, followed_by}
 use Rattle.sqlval.specs.Lists.{keys_cmp, sorted}
-use Rattle.sqlval.specs.Refusals.{Answer, Refusal, ◌then◌, refusal_of}
+use Rattle.sqlval.specs.Refusals.{Answer, ◌then◌, refusal_of}
 use Rattle.sqlval.specs.declared.fault.Fault.{Fault}
 use Rattle.sqlval.specs.declared.value.Value.{Value}
 use Rattle.query_terms.specs.Outcome.{IsRefusedBy}
@@ -12,12 +12,15 @@ use Rattle.query_terms.specs.Terms.{collation}
 use Rattle.query_terms.specs.Values.{Row}
 use Rattle.query_names.specs.Readings.{Sortable, combined, cut, in_order, once}
 use Rattle.query_names.specs.declared.reading.Reading.{Reading}
-use Rattle.query_answer.specs.Answers.{given_from}
 use Rattle.query_answer.specs.Nesting.{Found, Named, beside_rows, given, is_left}
-use Rattle.query_answer.specs.Parts.{FollowOneAnother, GivesInOrder, Kept, answer_on, is_of_totals, is_row_by_row, kept_of, of_rows, part_of, results_in}
+use Rattle.query_answer.specs.Parts.{FollowOneAnother, GivesInOrder, Kept, answer_on, is_of_totals, is_row_by_row, kept_of, of_rows, part_of}
 use Rattle.query_answer.proofs.Given.{given_alone, kept_alone, one_by_one}
 use Rattle.query_answer.proofs.PartRows.{all_of, alone, behind, kept_each, nothing_kept, part_is, refused_behind, rows_behind, stay_refused}
 use Rattle.query_answer.proofs.ShownRows.{equal_stay, otherwise}
+
+-- the results of what was kept
+abbrev pub results_in : Kept → List (List Value)
+results_in kept = map (λ s. s.0) kept.0
 
 -- ---- what DISTINCT, ORDER BY and LIMIT leave
 
@@ -44,7 +47,7 @@ module _ (q : Reading) (is : GivesInOrder q) where
   each_result [] = refl
   each_result (f ∷ fs) = ap (λ (l : List (List Value)). f.0.0 ∷ l) (each_result fs)
 
-  results_of_kept : (found : List Found) → results_in (kept_of q found) ≡ results found
+  pub results_of_kept : (found : List Found) → results_in (kept_of q found) ≡ results found
   results_of_kept found = ap results_in (kept_each q found is.ungrouped) ∙ each_result found
 
   each_given : (ss : List Sortable) → results (map given ss) ≡ map (λ s. s.0) ss
@@ -85,7 +88,7 @@ module _ (q : Reading) (is : GivesInOrder q) (s : Named) (same : q.sources ≡ s
   abbrev seen : Answer (List Found) → Answer (List (List Value))
   seen a = all_of q a then λ kept. Ok (results_in kept)
 
-  over_is : (rows : List Row) → answer_on q rows ≡ seen (collected (of_rows q s.1 rows))
+  pub over_is : (rows : List Row) → answer_on q rows ≡ seen (collected (of_rows q s.1 rows))
   over_is rows = answer_is_kept q is rows ∙ ap (λ (a : Answer Kept). a then λ kept. Ok (results_in kept)) (part_is q s rows same left)
 
   both_results : (xs ys : List Found) → results_in (kept_of q (xs ++ ys)) ≡ results_in (kept_of q xs) ++ results_in (kept_of q ys)
@@ -112,6 +115,5 @@ good rows = Ok rows
 pub follow_one_another : FollowOneAnother
 follow_one_another = record {
   none = λ q is. answer_is_kept q is [] ∙ (ap (λ (a : Answer Kept). a then λ kept. Ok (results_in kept)) (nothing_kept q (in_turn q is)) ∙ ap good (results_of_kept q is []));
-  kept = λ q rows is. (in_turn q is, answer_is_kept q is rows);
   both = λ q rows more is. (let a = alone q (in_turn q is) in both_answered q is a.0 a.1 a.2 rows more);
 }

@@ -19,6 +19,7 @@ pub mod PartTotals
 pub mod Places
 pub mod PlacesOfRows
 pub mod Quiet
+pub mod RowsMade
 pub mod Runs
 pub mod ShownRows
 pub mod Sought

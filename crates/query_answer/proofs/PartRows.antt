@@ -57,7 +57,7 @@ alone q e = alone_is q.sources (second_of (not q.is_grouped || is_of_totals q) (
 -- ---- one row
 
 module _ {B : Type 0} where
-  nothing_more : (xs : List B) → onto xs Finished ≡ Ok xs
+  pub nothing_more : (xs : List B) → onto xs Finished ≡ Ok xs
   nothing_more xs = (let done : List B → Answer (List B) = λ l. Ok l in ap done (append-nil xs))
 
   -- a row that doesn't join

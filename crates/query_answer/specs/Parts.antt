@@ -6,6 +6,7 @@ use Rattle.sqlval.specs.Refusals.{Answer, Refusal, ◌then◌}
 use Rattle.sqlval.specs.declared.value.Value.{Value}
 use Rattle.query_terms.specs.Values.{Row}
 use Rattle.query_names.specs.Readings.{Sortable, rows_over}
+use Rattle.query_names.specs.Views.{plain_rows}
 use Rattle.query_names.specs.declared.reading.Condition.{Condition}
 use Rattle.query_names.specs.declared.reading.Reading.{Reading}
 use Rattle.query_totals.specs.Totals.{is_total, tallies_over}
@@ -64,13 +65,12 @@ pub record GivesInOrder (q : Reading) : Type 0 where
 abbrev pub answer_on : Reading → List Row → Answer (List (List Value))
 answer_on q rows = rows_over q [] (beside_rows q.sources (rows ∷ []))
 
--- the results of what was kept
-abbrev pub results_in : Kept → List (List Value)
-results_in kept = map (λ s. s.0) kept.0
+-- the rows, without rowids, that are made of what was found
+abbrev pub rows_made : List Found → List Row
+rows_made found = plain_rows (map (λ f. f.0.0) found)
 
--- What such a query answers over rows is what it keeps of them; what it answers over some rows stands before what it answers over more.
+-- What such a query answers over some rows stands before what it answers over more.
 pub record FollowOneAnother : Type 0 where
   pub none : (q : Reading) → GivesInOrder q → answer_on q [] ≡ Ok []
-  pub kept : (q : Reading) (rows : List Row) → GivesInOrder q → (is_row_by_row q ≡ true) × (answer_on q rows ≡ (part_of q rows then λ kept. Ok (results_in kept)))
   pub both : (q : Reading) (rows more : List Row) → GivesInOrder q
       → answer_on q (rows ++ more) ≡ (answer_on q rows then λ xs. answer_on q more then λ ys. Ok (xs ++ ys))

@@ -7,6 +7,7 @@ mod distinct;
 mod grouping;
 mod keys;
 mod lookups;
+mod making;
 mod nesting;
 mod parts;
 mod results;
@@ -18,9 +19,10 @@ ghost use Rattle.query_answer.specs.Answers.{LoadsBeside};
 ghost use Rattle.query_answer.specs.Searches.{SearchesAsScans};
 
 pub use answering::{answer, finish};
+pub use making::make_rows;
 pub use parts::{
     GivenRows, give_rows, gives_in_order, is_row_by_row, parts_follow_one_another,
-    rows_are_given_in_parts, rows_of_part,
+    rows_are_given_in_parts,
 };
 use query_plan::other_rows_fail;
 pub use searches::search_at;

@@ -1,15 +1,14 @@
 //! What a query of one source gives of its rows, part after part.
 
 ghost use Rattle.std.specs.Prelude.{◌≡◌, ◌∷◌, ◌++◌, [], List, Ok, IfErr, IsTrue, map, true};
-ghost use Rattle.sqlval.specs.Faults.{IsNotDiskFault, IsOrMemory};
+ghost use Rattle.sqlval.specs.Faults.{IsNotDiskFault};
 ghost use Rattle.sqlval.specs.Refusals.{◌then◌};
 ghost use Rattle.query_terms.specs.Outcome.{AnswersBy};
 ghost use Rattle.query_terms.specs.Rows.{picked_rows};
 ghost use Rattle.query_terms.specs.Values.{Row};
-ghost use Rattle.query_names.specs.Views.{plain_rows};
 ghost use Rattle.query_answer.specs.Nesting.{Found, filtered_by, kept_row, onto};
 ghost use Rattle.query_answer.specs.Parts as meant;
-ghost use Rattle.query_answer.specs.Parts.{FollowOneAnother, GivesInOrder, StayRefused, kept_of, of_row, of_rows, part_of, results_in};
+ghost use Rattle.query_answer.specs.Parts.{FollowOneAnother, GivesInOrder, StayRefused, kept_of, of_row, of_rows, part_of};
 
 use crate::nesting::{Loops, condition_of, is_left, joins};
 use crate::results::{FoundRow, found_row};
@@ -17,7 +16,7 @@ use query_filter::Filter;
 use query_names::{Condition, Reading};
 use query_terms::SourceRow;
 use query_totals::{Tally, add_row, are_totals, no_rows};
-use sqlval::{Fault, Many, Misuse, Name, R, Value};
+use sqlval::{Fault, Many, Misuse, Name, R};
 use std::alloc::Global;
 use std::array::from_ref;
 use std::marker::Model;
@@ -161,7 +160,7 @@ fn give_each(
 }
 
 /// A query over these rows of its only source.
-fn loops_over<'a>(
+pub(crate) fn loops_over<'a>(
     reading: &'a Reading,
     filter: &'a Filter<'a>,
     rows: &'a Many<SourceRow>,
@@ -223,24 +222,6 @@ pub fn give_rows(
 pub fn rows_are_given_in_parts()
     ensures { StayRefused }
 {}
-
-/// The results of these rows, as rows of a source, without rowids. (`Memory` alone.)
-fn as_source_rows(alloc: Global, given: Vec<FoundRow>) -> R<Many<SourceRow>>
-    ensures { IsOrMemory (λ rows. rows ≡ plain_rows (map (λ f. f.results) given.items)) result }
-{
-    let mut rows = Vec::with_capacity(alloc, given.len())?;
-    'rows: for row in given {
-        rows.push(SourceRow::made(Value::Null, row.results))?;
-    }
-    Ok(Many::from_vec(rows))
-}
-
-/// What was given of each row, as rows of a source, without rowids. (`Memory` alone.)
-pub fn rows_of_part(alloc: Global, found: GivenRows) -> R<Many<SourceRow>>
-    ensures { IsOrMemory (λ rows. rows ≡ plain_rows (results_in found)) result }
-{
-    as_source_rows(alloc, found.rows)
-}
 
 /// A query that gives each row by itself is answered over rows as over some and then over the others.
 pub fn parts_follow_one_another()

@@ -29,7 +29,16 @@ pub struct FoundRow {
 fn values_of(alloc: Global, terms: &[Term], env: Env<'_>) -> R<Many<Value>>
     ensures { AnswersBy (λ vs. vs) (meant.values (seen env.entry) terms.now) result }
 {
-    let mut values = Vec::with_capacity(alloc, terms.len())?;
+    let values = Vec::with_capacity(alloc, terms.len())?;
+    values_over(alloc, terms, env, Many::from_vec(values))
+}
+
+/// The same, in place of the values of a list.
+pub fn values_over(alloc: Global, terms: &[Term], env: Env<'_>, list: Many<Value>) -> R<Many<Value>>
+    ensures { AnswersBy (λ vs. vs) (meant.values (seen env.entry) terms.now) result }
+{
+    let mut values = list.into_vec();
+    values.clear();
     'terms: for term in terms {
         values.push(evaluate(alloc, term, env)?.into_value(alloc)?)?;
     }

@@ -48,7 +48,7 @@ answered a (Ok v) e = refl
 answered a (Err r) e = absurd (never a e)
 
 -- what is written is the value
-plain_value : (a : Option Affinity) (e : Term) (env : Environment) → stays_beside a (literal_value e) ≡ true → value e env ≡ Ok (literal_value e)
+pub plain_value : (a : Option Affinity) (e : Term) (env : Environment) → stays_beside a (literal_value e) ≡ true → value e env ≡ Ok (literal_value e)
 plain_value a (Const v) env e = refl
 plain_value a (Digits n) env e = answered a (word (pos n)) e
 plain_value a (One Negated (Digits n)) env e = answered a (word (neg_ℤ (pos n))) e

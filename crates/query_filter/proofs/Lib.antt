@@ -1,3 +1,4 @@
 pub mod AmongPlain
 pub mod Halves
+pub mod Numbers
 pub mod Parts

@@ -16,6 +16,7 @@ member_term m = In m.is_negated m.operand.now (terms m.list.now)
 -- what a side stands for
 abbrev pub side_term : Side → Term
 side_term (side.Plain t) = t.now
+side_term (side.Against a) = a.term.now
 side_term (side.Among m) = member_term m
 
 -- what AND joins, from left to right

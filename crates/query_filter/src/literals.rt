@@ -2,6 +2,7 @@
 
 ghost use Rattle.std.specs.Prelude.{◌≡◌, IfErr, IfOk, IfSome, map, true};
 ghost use Rattle.sqlval.specs.Conversion.{word};
+ghost use Rattle.sqlval.specs.declared.value.Value.TheVariants as the;
 ghost use Rattle.query_filter.specs.Literals as meant;
 ghost use Rattle.query_filter.specs.Literals.{are_plain, value_or_null};
 
@@ -32,6 +33,31 @@ fn literal_value(alloc: Global, term: &Term) -> R<Value>
             _ => Ok(Value::Null),
         },
         _ => Ok(Value::Null),
+    }
+}
+
+/// The integer that a value is.
+fn integer_in(value: Value) -> Option<i64>
+    ensures { IfSome result (λ number. value ≡ the.Int number) }
+{
+    match value {
+        Value::Int(number) => Some(number),
+        _ => None,
+    }
+}
+
+/// The integer that a literal is, with a minus or without.
+pub(crate) fn number_in(term: &Term) -> Option<i64>
+    ensures { IfSome result (λ number. meant.literal_value term.now ≡ the.Int number) }
+{
+    match &term.node {
+        Node::Const(Value::Int(number)) => Some(*number),
+        Node::Digits(number) => integer_in(number_value(i128::from(*number))),
+        Node::One(OneSided::Negated, operand) => match &operand.node {
+            Node::Digits(number) => integer_in(number_value(-i128::from(*number))),
+            _ => None,
+        },
+        _ => None,
     }
 }
 

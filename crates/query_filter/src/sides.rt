@@ -7,6 +7,7 @@ ghost use Rattle.query_terms.specs.Rows.{and_truth, seen};
 ghost use Rattle.query_terms.specs.Values as meant;
 ghost use Rattle.query_filter.specs.Sides.{all_holding, filter_sides, holding, side_term, joined_sides};
 
+use crate::against::Against;
 use crate::members::Members;
 use query_terms::{Env, Node, Term, TwoSided, holds};
 use sqlval::{Fault, R};
@@ -16,6 +17,8 @@ use std::alloc::Global;
 #[derive(Drop)]
 pub(crate) enum Side<'a> {
     Plain(&'a Term),
+    /// A column beside a number.
+    Against(Against<'a>),
     /// IN with a long list of literals.
     Among(Members<'a>),
 }
@@ -30,7 +33,10 @@ fn side_of<'a>(alloc: Global, term: &'a Term) -> R<Side<'a>>
             return Ok(Side::Among(members));
         }
     }
-    Ok(Side::Plain(term))
+    match Against::of(term) {
+        Some(against) => Ok(Side::Against(against)),
+        None => Ok(Side::Plain(term)),
+    }
 }
 
 /// Adds a part. (`Memory`.)
@@ -74,6 +80,7 @@ fn side_holds(alloc: Global, side: &Side<'_>, env: Env<'_>) -> R<Option<bool>>
 {
     match side {
         Side::Plain(term) => holds(alloc, term, env),
+        Side::Against(against) => against.holds(alloc, env),
         Side::Among(members) => members.holds(alloc, env),
     }
 }

@@ -1,5 +1,5 @@
 -- Expressions that are integers.
-use Rattle.std.proofs.Common.{◌≡◌, refl, ap, ◌∙◌, ℤ, pos, negsuc, zero, suc, true, false, Option, Some, None, Ok}
+use Rattle.std.proofs.Common.{◌≡◌, refl, ap, ◌∙◌, ℤ, Bool, pos, negsuc, zero, suc, true, false, Option, Some, None, Ok}
 use mathlib.Core.Bool.{true≢false}
 use Rattle.std.specs.Ordering.{int_cmp}
 use Rattle.sqlval.specs.Refusals.{Answer, ◌then◌}
@@ -8,6 +8,7 @@ use Rattle.sqlval.specs.declared.affinity.Affinity.TheVariants as kind
 use Rattle.sqlval.specs.declared.collation.Collation.{Collation}
 use Rattle.sqlval.specs.declared.value.Value.{Value}
 use Rattle.sqlval.specs.declared.value.Value.TheVariants.{Int}
+use Rattle.query_terms.specs.Laws.{IntegersStandByOrder}
 use Rattle.query_terms.specs.TextSides.{is_text}
 use Rattle.query_terms.specs.Terms.{Term, Two, affinity, collation_of_two}
 use Rattle.query_terms.specs.Values.{Environment, arithmetic, compare, is_met, of_bool, on_numbers, truth, value}
@@ -59,3 +60,12 @@ is_true a (negsuc n) e apart = ap (λ b. b then truth) e
 
 pub is_false : (a : Answer Value) (z : ℤ) → a ≡ Ok (Int z) → z ≡ pos 0 → (a then truth) ≡ Ok (Some false)
 is_false a z e is = ap (λ b. b then truth) (e ∙ ap (λ (n : ℤ). Ok (Int n)) is)
+
+truth_met : (b : Bool) → truth (of_bool b) ≡ Ok (Some b)
+truth_met true = refl
+truth_met false = refl
+
+-- two integers are compared by their order
+pub by_order : IntegersStandByOrder
+by_order comparison left right env x y plain other x_is y_is =
+    ap (λ b. b then truth) (both_compared left right env x y x_is y_is comparison plain other) ∙ truth_met (is_met comparison (int_cmp x y))

@@ -20,10 +20,10 @@ mod totals;
 mod tree;
 mod truth;
 
-ghost use Rattle.query_terms.specs.Laws.{ConvertsAsRelated, RefusesReals};
+ghost use Rattle.query_terms.specs.Laws.{ConvertsAsRelated, IntegersStandByOrder, RefusesReals};
 
 pub use collating::{affinity, collation};
-pub use comparing::Manner;
+pub use comparing::{Manner, is_met};
 pub use datum::Datum;
 pub use integers::{evaluate, holds};
 pub use places::RowPlaces;
@@ -37,4 +37,9 @@ pub use tree::{
 pub fn conversion_is_one()
     ensures gives { ConvertsAsRelated }
     ensures refuses { RefusesReals }
+{}
+
+/// Two integers, neither of them beside a text's affinity, are compared by their order alone.
+pub fn integers_stand_by_order()
+    ensures { IntegersStandByOrder }
 {}

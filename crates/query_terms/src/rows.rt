@@ -15,6 +15,7 @@ use smallvec::SmallVec;
 use sqlval::{Field, Many, Value};
 use std::alloc::{AllocError, Global};
 use std::marker::Model;
+use std::mem::replace;
 use std::rc::Rc;
 
 /// A row whose values were made and lie in no record.
@@ -87,8 +88,17 @@ fn copies_of(alloc: Global, fields: &[Field<'_>]) -> Result<Many<Value>, AllocEr
     Ok(Many::from_vec(copies))
 }
 
+/// An empty list in the memory of this one.
+fn emptied(values: Many<Value>) -> Many<Value>
+    ensures { result ≡ [] }
+{
+    let mut values = values.into_vec();
+    values.clear();
+    Many::from_vec(values)
+}
+
 impl SourceRow {
-    ghost use Rattle.std.specs.Prelude.{IfOk, OnOk};
+    ghost use Rattle.std.specs.Prelude.{◌≡◌, [], IfOk, OnOk};
     ghost use Rattle.record.specs.Columns.{values_in};
     ghost use Rattle.query_terms.specs.Stored.{integer_in, rowid_value, shown_row, with_own};
 
@@ -134,6 +144,23 @@ impl SourceRow {
     {
         SourceRow {
             cells: Cells::Made(MadeRow { rowid, values }),
+        }
+    }
+
+    /// The row becomes that of this rowid and these values. Answers an empty list, in the memory of the values that a made row had.
+    pub fn remake(&mut self, alloc: Global, rowid: Value, values: Many<Value>) -> Many<Value>
+        ensures made { self.new ≡ record { rowid = rowid; values = values } }
+        ensures empty { result ≡ [] }
+    {
+        match &mut self.cells {
+            Cells::Made(made) => {
+                made.rowid = rowid;
+                emptied(replace(&mut made.values, values))
+            }
+            Cells::Stored(_) | Cells::Shown(_) => {
+                *self = SourceRow::made(rowid, values);
+                Many::new(alloc)
+            }
         }
     }
 

@@ -1,18 +1,17 @@
 -- What a query keeps of what a view's query makes of rows.
-use Rattle.std.proofs.Common.{◌≡◌, ◌⊎◌, inl, inr, refl, sym, ap, subst, ◌∙◌, true, List, [], ◌∷◌, ◌++◌, map, Option, Some, None, Ok, Err, append_assoc, append-nil}
-use Rattle.std.specs.Prelude.{IfErr, MatchResult, Result}
+use Rattle.std.proofs.Common.{◌≡◌, inl, inr, refl, sym, ap, subst, ◌∙◌, true, List, [], ◌++◌, map, Option, Some, None, Ok, Err, append_assoc, append-nil}
+use Rattle.std.specs.Prelude.{Result}
 use Rattle.std.proofs.lemmas.List.{map-append}
-use Rattle.sqlval.specs.Faults.{IsNotDiskFault, IsOrMemory}
+use Rattle.sqlval.specs.Faults.{IsNotDiskFault}
 use Rattle.sqlval.specs.Refusals.{Answer, Refusal, ◌then◌, refusal_of}
 use Rattle.sqlval.specs.declared.fault.Fault.{Fault}
-use Rattle.sqlval.specs.declared.fault.Fault.TheVariants.{Memory}
 use Rattle.sqlval.specs.declared.value.Value.{Value}
 use Rattle.sqlval.specs.declared.value.Value.TheVariants.{Null}
 use Rattle.query_terms.specs.Outcome.{AnswersBy, IsRefusedBy}
 use Rattle.query_terms.specs.Values.{Row}
 use Rattle.query_names.specs.Views.{plain_rows}
 use Rattle.query_names.specs.declared.reading.Reading.{Reading}
-use Rattle.query_answer.specs.Parts.{FollowOneAnother, GivesInOrder, Kept, StayRefused, answer_on, is_row_by_row, part_of, results_in}
+use Rattle.query_answer.specs.Parts.{FollowOneAnother, GivesInOrder, Kept, StayRefused, answer_on, is_row_by_row, part_of}
 use Rattle.query_view.specs.Seen.{HasKept, HasSeen, IsRefusedFrom, answer_through}
 
 abbrev Rows : Type 0
@@ -20,21 +19,6 @@ Rows = List (List Value)
 
 abbrev made : Answer Rows → Answer (List Row)
 made a = a then λ rows. Ok (plain_rows rows)
-
--- ---- what a view's query makes of rows
-
-module _ (law : FollowOneAnother) (view : Reading) (is : GivesInOrder view) (rows : List Row) where
-  abbrev results : Answer Kept → Answer Rows
-  results a = a then λ kept. Ok (results_in kept)
-
-  pub part_made : (part : Kept) (result : Result (List Row) Fault) → part_of view rows ≡ Ok part → IsOrMemory (λ made. made ≡ plain_rows (results_in part)) result
-      → AnswersBy (λ rows. rows) (made (answer_on view rows)) result
-  part_made part (Ok there) kept same = ap made ((law.kept view rows is).1 ∙ ap results kept) ∙ (let good : List Row → Answer (List Row) = λ l. Ok l in ap good (sym same))
-  part_made part (Err fault) kept same = inl same
-
-  pub part_refused : (fault : Fault) → IsRefusedBy (part_of view rows) fault → IsRefusedBy (made (answer_on view rows)) fault
-  part_refused fault (inl memory) = inl memory
-  part_refused fault (inr why) = inr (ap made ((law.kept view rows is).1 ∙ ap results why))
 
 -- ---- what was kept, and more
 

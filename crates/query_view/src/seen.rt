@@ -12,7 +12,7 @@ ghost use Rattle.query_answer.specs.Parts.{GivesInOrder, answer_on, is_row_by_ro
 ghost use Rattle.query_view.specs.Seen.{HasKept, HasSeen, IsRefusedFrom, answer_through};
 
 use query_answer::{
-    GivenRows, finish, give_rows, parts_follow_one_another, rows_are_given_in_parts, rows_of_part,
+    GivenRows, finish, give_rows, make_rows, parts_follow_one_another, rows_are_given_in_parts,
 };
 use query_filter::Filter;
 use query_names::Reading;
@@ -20,12 +20,15 @@ use query_terms::SourceRow;
 use sqlval::{Fault, Many, R, Row};
 use std::alloc::Global;
 use std::marker::Model;
+use std::mem::replace;
 
 /// What a query has kept of a view's rows so far, and its first refusal, which waits until the view's are through: contracts see both.
 #[derive(Drop)]
 pub struct SeenRows {
     found: GivenRows,
     refusal: Option<Fault>,
+    /// The view's rows of the part before, whose memory those of the next take.
+    others: Many<SourceRow>,
 }
 
 impl Model for SeenRows {
@@ -54,25 +57,9 @@ impl SeenRows {
         Ok(SeenRows {
             found: GivenRows::new(alloc, reading)?,
             refusal: None,
+            others: Many::new(alloc),
         })
     }
-}
-
-/// The rows that a view's query makes of these. (Its first refusal; `Memory`.)
-fn made_of(
-    alloc: Global,
-    view: &Reading,
-    filter: &Filter<'_>,
-    rows: &Many<SourceRow>,
-) -> R<Many<SourceRow>>
-    ensures made { GivesInOrder view.now → filter.now ≡ view.now.filter
-        → AnswersBy (λ made. made) (answer_on view.now rows.now then λ made. Ok (plain_rows made)) result }
-    ensures not_disk { GivesInOrder view.now → filter.now ≡ view.now.filter → IfErr result IsNotDiskFault }
-{
-    parts_follow_one_another();
-    let mut part = GivenRows::new(alloc, view)?;
-    give_rows(alloc, view, filter, rows, &mut part)?;
-    rows_of_part(alloc, part)
 }
 
 /// Notes a refusal.
@@ -121,8 +108,10 @@ pub fn see_rows(
     ensures not_disk { GivesInOrder view.now → view_filter.now ≡ view.now.filter → IfErr result IsNotDiskFault }
 {
     parts_follow_one_another();
-    let made = made_of(alloc, view, view_filter, rows)?;
+    let others = replace(&mut seen.others, Many::new(alloc));
+    let made = make_rows(alloc, view, view_filter, rows, others)?;
     keep(alloc, reading, filter, &made, seen);
+    seen.others = made;
     Ok(())
 }
 
@@ -134,7 +123,7 @@ pub fn finish_seen(alloc: Global, reading: &Reading, seen: SeenRows) -> R<Vec<Ro
         → IfOk result (λ rows. HaveWidth (length reading.now.results) (map values_of rows.items)) }
     ensures not_disk { (view : Query) (rows : List Meant) → HasSeen view reading.now rows seen → IfErr result IsNotDiskFault }
 {
-    let SeenRows { found, refusal } = seen;
+    let SeenRows { found, refusal, .. } = seen;
     match refusal {
         Some(fault) => Err(fault),
         None => finish(alloc, reading, found),
