@@ -18,7 +18,7 @@ use Rattle.session.proofs.Standing.{held_if_stored}
 use Rattle.engine.specs.Converting.{LeaveAloneOrHeld}
 use Rattle.engine.specs.Creating.{IsEmptyDatabase, LeavesBlankOrCreated, is_blank_content}
 use Rattle.engine.specs.Opening.{IsOpenedFrom, IsRefusedOpen, LeavesOpened}
-use Rattle.engine.specs.Promises.{AreAloneOrFound, AreBlankOrNew, AreFoundAgain, ConvertingKeeps, CrashKeepsCommits, CrashKeepsPrepared, CrashKeepsRuns, CreatingKeeps, HoldsEarlier, IsFoundAgain, IsNewAgain, IsTrueAtMoments, IsTrueEarlier, OpeningKeeps, RepresentedFilesHold}
+use Rattle.engine.specs.Promises.{AreAloneOrFound, AreBlankOrNew, AreFoundAgain, ConvertingKeeps, CrashKeepsCommits, CrashKeepsPrepared, CrashKeepsRuns, CreatingKeeps, FailedFilesHold, HoldsEarlier, IsFoundAgain, IsNewAgain, IsTrueAtMoments, IsTrueEarlier, OpeningKeeps, RepresentedFilesHold}
 use Rattle.engine.specs.declared.opening.Engine.{Engine}
 use Rattle.engine.proofs.EmptyOpening.{created_hold}
 
@@ -137,6 +137,10 @@ module _ {D : Type 0} {g : Ghosts D} where
   pub keeps_in_opening : (db log : D) (result : Result (Engine D g) (Refused D)) → OpeningKeeps db log result
   keeps_in_opening db log result database told_db told_log synced_db synced_log held meanwhile =
       found_throughout (λ found. found ≡ database) _ _ _ _ (meanwhile database told_db told_log synced_db synced_log held)
+
+  pub failed_hold : (engine : Engine D g) → FailedFilesHold engine
+  failed_hold engine m (inl (stopped, failed, left)) is quiet = (let found = left.held _ _ left.db_left left.log_left quiet in held_found (MayShow m m) _ _ found.0 found.1 found.2)
+  failed_hold engine m (inr shown) is quiet = absurd (false≢true (sym shown.running ∙ is))
 
   pub represented_hold : (engine : Engine D g) → RepresentedFilesHold engine
   represented_hold engine m (inl (stopped, failed, left)) on = absurd (false≢true (sym on ∙ failed))

@@ -94,6 +94,11 @@ module _ {D : Type 0} {g : Ghosts D} where
   abbrev pub RepresentedFilesHold : Engine D g → Type 0
   RepresentedFilesHold engine = (m : Machine) → EngineRepresents engine m → m.failed ≡ false → Hold (g.file (db_disk engine)).content (g.file (log_disk engine)).content (newest m)
 
+  -- The files of one that has failed hold, as they are, a database that may be shown, where no frame of the log is accepted by chance.
+  abbrev pub FailedFilesHold : Engine D g → Type 0
+  FailedFilesHold engine = (m : Machine) → EngineRepresents engine m → m.failed ≡ true → HasNoChance (versions (g.file (log_disk engine))) (g.file (log_disk engine)).content
+      → IsFoundAgain g (MayShow m m) (g.file (db_disk engine)).content (g.file (log_disk engine)).content
+
   -- The promise. A statement was answered, from one machine to the next. Whenever in it a crash comes, and whatever it leaves, opening
   -- finds the newest database before or after the statement, or one that a failed commit has left in doubt.
   abbrev pub CrashKeepsCommits : Engine D g → Engine D g → Type 0

@@ -1,6 +1,6 @@
 //! Laws of what a crash leaves.
 
-ghost use Rattle.engine.specs.Promises.{ConvertingKeeps, CrashKeepsCommits, CrashKeepsPrepared, CrashKeepsRuns, CreatingKeeps, HeldOnce, HoldsEarlier, OpeningKeeps, RepresentedFilesHold};
+ghost use Rattle.engine.specs.Promises.{ConvertingKeeps, CrashKeepsCommits, CrashKeepsPrepared, CrashKeepsRuns, CreatingKeeps, FailedFilesHold, HeldOnce, HoldsEarlier, OpeningKeeps, RepresentedFilesHold};
 
 use crate::opening::Engine;
 use db_pages::pages_store_one_database;
@@ -22,6 +22,12 @@ pub fn files_hold_one_database()
 /// The files of an engine that hasn't failed hold the newest committed database.
 pub fn represented_files_hold<D: Disk + Drop>(_engine: &Engine<D>)
     ensures { RepresentedFilesHold _engine.now }
+{}
+
+/// The files of an engine that has failed hold, as they are, a database that was committed or that the failed commit left in doubt: opening them
+/// without a crash finds it.
+pub fn failed_files_hold<D: Disk + Drop>(_engine: &Engine<D>)
+    ensures { FailedFilesHold _engine.now }
 {}
 
 /// Whenever a crash comes during a statement, opening what it leaves finds a database that was committed.

@@ -16,7 +16,8 @@ pub use converting::convert;
 pub use creating::{create, created_files_hold_nothing};
 pub use laws::{
     converting_keeps, crash_keeps_commits, crash_keeps_prepared, crash_keeps_runs, creating_keeps,
-    files_hold_one_database, held_earlier, opening_keeps, represented_files_hold,
+    failed_files_hold, files_hold_one_database, held_earlier, opening_keeps,
+    represented_files_hold,
 };
 pub use opening::Engine;
 pub use output::put_reply;
