@@ -3,7 +3,9 @@ use Rattle.std.proofs.Common.{◌≡◌, ◌≢◌, ◌<◌, ◌+◌, ◌-◌, r
 use Rattle.std.proofs.lemmas.Bool.Decides.{nat_tests}
 use Rattle.std.proofs.lemmas.List.{take_more}
 use Rattle.std.proofs.lemmas.List.Concat.{flat_map-append}
-use Rattle.std.specs.List.{flat_map}
+use Rattle.std.specs.List.{flat_map, list_any}
+use Rattle.std.specs.Prelude.{Bool, true, false, ◌==◌, ◌||◌, if◌then◌else◌}
+use mathlib.Core.Bool.{true≢false}
 use Rattle.std.specs.Char.{to_ascii_lowercase}
 use Rattle.std.specs.Cmp.Lexicographic.{slice_cmp}
 use Rattle.std.specs.Ordering.{nat_cmp, ordering_then}
@@ -72,3 +74,13 @@ run_more xs i h nonzero e =
     let more = take_more xs i 0 h in
     ap (flat_map escape) more ∙ (flat_map-append escape (take i xs) (get_or xs i 0 ∷ [])
     ∙ (ap (λ (ys : List ℕ). ys ++ (escape (get_or xs i 0) ++ [])) e ∙ (ap (λ (ys : List ℕ). take i xs ++ (ys ++ [])) (escape_of (get_or xs i 0) nonzero) ∙ sym more)))
+
+-- bytes without zeros stay as they are
+pub without_zeros : (bs : List ℕ) → list_any (λ b. b == 0) bs ≡ false → flat_map escape bs ≡ bs
+without_zeros [] h = refl
+without_zeros (b ∷ bs) h = by (b == 0) (without_zeros bs) h
+  where
+    by : (t : Bool) → (list_any (λ b. b == 0) bs ≡ false → flat_map escape bs ≡ bs) → (t || list_any (λ b. b == 0) bs) ≡ false
+        → (if t then 0 ∷ 255 ∷ [] else b ∷ []) ++ flat_map escape bs ≡ b ∷ bs
+    by true on h = absurd (true≢false h)
+    by false on h = ap (λ (ys : List ℕ). b ∷ ys) (on h)

@@ -111,7 +111,7 @@ pub fn put_key(
     Ok(())
 }
 
-/// Keys stand as the values stand of which they are, and what their first sixteen bytes tell apart, stands so.
+/// Keys stand as their values do; where the numbers of their first sixteen bytes differ, they stand as these.
 pub fn keys_stand_as_values()
     ensures order { KeysStandAsValues }
     ensures full { FullKeysStandAsValues }

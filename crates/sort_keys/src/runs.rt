@@ -1,7 +1,7 @@
 //! Bytes with an end of their own.
 
-ghost use Rattle.std.specs.Prelude.{◌≡◌, ◌≤◌, ◌<◌, ◌++◌, ◌∷◌, OnOk, length, slice_index, take};
-ghost use Rattle.std.specs.List.{flat_map};
+ghost use Rattle.std.specs.Prelude.{◌==◌, ◌≡◌, ◌≤◌, ◌<◌, ◌++◌, ◌∷◌, OnOk, length, slice_index, take};
+ghost use Rattle.std.specs.List.{flat_map, list_any};
 ghost use Rattle.sort_keys.specs.Keys.{AreBytes, ended, escape};
 
 use std::alloc::AllocError;
@@ -19,8 +19,19 @@ fn run_len(bytes: &[u8]) -> usize
     end
 }
 
-/// Writes bytes, each zero as 0 and 255.
-fn put_escaped(out: &mut Vec<u8>, bytes: &[u8]) -> Result<(), AllocError>
+/// Whether some byte is zero. The loop goes over all bytes, so that the compiler takes many at a time.
+fn has_zero(bytes: &[u8]) -> bool
+    ensures { result ≡ list_any (λ b. b == 0) bytes.now }
+{
+    let mut found = false;
+    for byte in bytes {
+        found |= *byte == 0;
+    }
+    found
+}
+
+/// Writes bytes of which some are zero, run by run.
+fn put_runs(out: &mut Vec<u8>, bytes: &[u8]) -> Result<(), AllocError>
     ensures { OnOk result (out.new.items ≡ out.old.items ++ flat_map escape bytes.now) }
 {
     let mut rest = bytes;
@@ -32,6 +43,17 @@ fn put_escaped(out: &mut Vec<u8>, bytes: &[u8]) -> Result<(), AllocError>
         }
         out.extend_from_slice(&[0, 255])?;
         rest = &rest[run + 1..];
+    }
+}
+
+/// Writes bytes, each zero as 0 and 255.
+fn put_escaped(out: &mut Vec<u8>, bytes: &[u8]) -> Result<(), AllocError>
+    ensures { OnOk result (out.new.items ≡ out.old.items ++ flat_map escape bytes.now) }
+{
+    if has_zero(bytes) {
+        put_runs(out, bytes)
+    } else {
+        out.extend_from_slice(bytes)
     }
 }
 

@@ -1,13 +1,6 @@
-use Rattle.std.proofs.Common.{◌≡◌, ◌∙◌, ◌∷◌, ◌++◌, ◌+◌, [], arith, rules, take}
-use Rattle.std.proofs.lemmas.List.{take_rest}
-use Rattle.sort_keys.proofs.Parts.{run_on}
+use Rattle.std.proofs.Common.{◌∙◌, rules, sym}
+use Rattle.sort_keys.proofs.Escapes.{without_zeros}
 use Rattle.sort_keys.proofs.runs.put_escaped.Goals as goal
 
-pub runs-preserved : goal.runs-preserved
-runs-preserved c =
-    let n = c.run_len-run.result in
-    let rest = c.runs.rest.now in
-    let first : c.extend_from_slice.new.self.items ≡ c.runs.out.items ++ take n rest = search rules in
-    let both : c.extend_from_slice-in-runs.new.self.items ≡ (c.runs.out.items ++ take n rest) ++ 0 ∷ 255 ∷ [] = search (rules, first) in
-    run_on c.runs.out.items rest c.extend_from_slice-in-runs.new.self.items _ n (omega (arith, c.run_len-run.ensures.small)) c.run_len-run.ensures.run (c.run_len-run.ensures.zero (omega (arith, c.run_len-run.ensures.small))) both (take_rest rest (n + 1))
-    ∙ c.runs.invariant
+pub returns-else-has_zero : goal.returns-else-has_zero
+returns-else-has_zero c = rw (without_zeros c.args.bytes.now (sym c.has_zero.ensures ∙ c.if-has_zero.false)) (search rules)

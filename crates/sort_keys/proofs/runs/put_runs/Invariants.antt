@@ -2,7 +2,7 @@
 use Rattle.std.proofs.Common.{◌≡◌, ◌++◌, length}
 use Rattle.std.specs.List.{flat_map}
 use Rattle.sort_keys.specs.Keys.{escape}
-use Rattle.sort_keys.proofs.runs.put_escaped.Given as goal
+use Rattle.sort_keys.proofs.runs.put_runs.Given as goal
 
 abbrev pub invariant-runs : goal.invariant-runs
 invariant-runs l = l.out.items ++ flat_map escape l.rest ≡ l.initial.out.items ++ flat_map escape l.bytes
