@@ -1,0 +1,13 @@
+pub mod EntriesHeld
+pub mod EntriesKept
+pub mod GroupedMore
+pub mod GroupsTaken
+pub mod KeyBytes
+pub mod KeyOrder
+pub mod KeyedRows
+pub mod KeysWritten
+pub mod Listed
+pub mod MapEntries
+pub mod OfGroup
+pub mod PutLast
+pub mod RowTaken
