@@ -1,8 +1,7 @@
 -- The groups of rows, with one more row.
-use Rattle.std.proofs.Common.{◌≡◌, refl, sym, ap, ◌∙◌, subst, ℕ, List, [], ◌∷◌, ◌++◌, length, map, Ok, Err, Result}
+use Rattle.std.proofs.Common.{◌≡◌, refl, sym, ap, ◌∙◌, subst, List, [], ◌∷◌, ◌++◌, length, map, Ok, Err, Result}
 use Rattle.std.specs.Prelude.{All}
 use Rattle.std.specs.Cmp.{IsTotalOrder}
-use Rattle.std.specs.Global.{Vec}
 use Rattle.std.specs.List.{AllByRecursion}
 use Rattle.std.specs.Ordering.{is_eq}
 use Rattle.std.specs.declared.cmp.Ordering.{Ordering}
@@ -22,16 +21,17 @@ use Rattle.query_totals.specs.Totals.{arguments_at}
 use Rattle.query_groups.specs.Groups.{AreAsLong, Entry, Keyed, bytes_of_group, kept_of_group}
 use Rattle.query_groups.specs.Keeping.{AllSome, HaveHeldKeys, HoldGroups, TakesArguments, by_bytes, seen_entries, put_last}
 use Rattle.query_groups.specs.declared.kept.Group.{Group}
+use Rattle.query_groups.specs.declared.kept.GroupKey.{GroupKey}
 use Rattle.query_groups.proofs.KeyOrder.{as_full, full_cmp, full_total}
 use Rattle.query_groups.proofs.PutLast.{AllHeads, all_grouped, grouped_as, groups_some, put_as, put_is}
 
 -- ---- entries by what is seen of them
 
 abbrev MapEntry : Type 0
-MapEntry = Vec ℕ × Group
+MapEntry = GroupKey × Group
 
 abbrev seen_of : MapEntry → Entry
-seen_of e = (e.0.items, (e.1.keys, e.1.tallies.items))
+seen_of e = (e.0.bytes.items, (e.1.keys, e.1.tallies.items))
 
 abbrev first_or : {X : Type 0} → X → List X → X
 first_or d [] = d
@@ -48,14 +48,14 @@ module _ (ks ts : List Term) where
   abbrev entry_of : List Keyed → Entry
   entry_of group = (bytes_of_group ks group, kept_of_group ts group)
 
-  pub zipped : (es : List MapEntry) (gs : List (List Keyed)) → seen_entries es ≡ map entry_of gs → HoldGroups ks ts es gs
-  zipped [] [] h = tt
-  zipped [] (g ∷ gs) h = some_none (entry_of g) (map entry_of gs) (sym h)
-  zipped (e ∷ es) [] h = some_none (seen_of e) (map seen_of es) h
-  zipped (e ∷ es) (g ∷ gs) h =
+  pub zipped : (es : List MapEntry) (gs : List (List Keyed)) → seen_entries es ≡ map entry_of gs → HaveHeldKeys es → HoldGroups ks ts es gs
+  zipped [] [] h held = tt
+  zipped [] (g ∷ gs) h held = some_none (entry_of g) (map entry_of gs) (sym h)
+  zipped (e ∷ es) [] h held = some_none (seen_of e) (map seen_of es) h
+  zipped (e ∷ es) (g ∷ gs) h held =
       let seen : seen_of e ≡ entry_of g = ap (first_or (seen_of e)) h in (
-        (ap (λ (p : Entry). p.0) seen, ap (λ (p : Entry). p.1.0) seen, ap (λ (p : Entry). p.1.1) seen),
-        zipped es gs (ap rest_of h),
+        (ap (λ (p : Entry). p.0) seen, ap (λ (p : Entry). p.1.0) seen, ap (λ (p : Entry). p.1.1) seen, held.0.0),
+        zipped es gs (ap rest_of h) held.1,
       )
 
   pub are_seen : (es : List MapEntry) (gs : List (List Keyed)) → HoldGroups ks ts es gs → seen_entries es ≡ map entry_of gs
@@ -101,15 +101,15 @@ groups_are_long [] found h = (h, tt)
 groups_are_long (k ∷ ks) found h = all_grouped (IsAsLong (k ∷ ks)) (by_keys (k ∷ ks)) found h
 
 module _ (ks ts : List Term) where
-  heads_of : (es : List MapEntry) (gs : List (List Keyed)) → HoldGroups ks ts es gs → HaveHeldKeys (seen_entries es) → AllByRecursion (AllByRecursion (IsAsLong ks)) gs → AllHeads (IsKeyed ks) gs
+  heads_of : (es : List MapEntry) (gs : List (List Keyed)) → HoldGroups ks ts es gs → HaveHeldKeys es → AllByRecursion (AllByRecursion (IsAsLong ks)) gs → AllHeads (IsKeyed ks) gs
   heads_of [] [] h held long = tt
   heads_of [] (g ∷ gs) h held long = absurd h
   heads_of (e ∷ es) [] h held long = absurd h
   heads_of (e ∷ es) ([] ∷ gs) h held long = heads_of es gs h.1 held.1 long.1
-  heads_of (e ∷ es) ((y ∷ ys) ∷ gs) h held long = ((long.0.0, subst (All IsHeld) h.0.1 held.0), heads_of es gs h.1 held.1 long.1)
+  heads_of (e ∷ es) ((y ∷ ys) ∷ gs) h held long = ((long.0.0, subst (All IsHeld) h.0.1 held.0.1), heads_of es gs h.1 held.1 long.1)
 
   -- the first row of each group has keys as the program has them
-  pub heads_keyed : (es : List MapEntry) (found : List Keyed) → HoldGroups ks ts es (grouped ks found) → HaveHeldKeys (seen_entries es) → AreAsLong ks found → AllHeads (IsKeyed ks) (grouped ks found)
+  pub heads_keyed : (es : List MapEntry) (found : List Keyed) → HoldGroups ks ts es (grouped ks found) → HaveHeldKeys es → AreAsLong ks found → AllHeads (IsKeyed ks) (grouped ks found)
   heads_keyed es found h held long = heads_of es (grouped ks found) h held (groups_are_long ks found long)
 
 pub grouped_more : FullKeysStandAsValues → (ks : List Term) (before : List Keyed) (r : Keyed) → (length ks ≡ 0 → ⊥) → AreAsLong ks before → IsKeyed ks r → AllHeads (IsKeyed ks) (grouped ks before)

@@ -2,14 +2,13 @@
 
 ghost use Rattle.std.specs.Prelude.{◌≡◌, ◌++◌, ◌∷◌, [], All, IfErr, List, None, Ok, OnOk, length, map, option_map, slice_get, unwrap_or};
 ghost use Rattle.std.specs.BTreeMap.{get_by};
-ghost use Rattle.std.specs.Cmp.Lexicographic.{slice_cmp};
-ghost use Rattle.std.specs.Ordering.{nat_cmp};
 ghost use Rattle.sqlval.specs.Faults.{IsOrMemory};
 ghost use Rattle.sqlval.specs.Fields.{value_of};
 ghost use Rattle.sqlval.specs.Refusals.{◌then◌};
 ghost use Rattle.sqlval.specs.declared.collation.Collation.TheVariants.{Binary};
 ghost use Rattle.sqlval.specs.declared.value.Value.TheVariants.{Null};
-ghost use Rattle.sort_keys.specs.Keys.{IsHeld, values_key};
+ghost use Rattle.sort_keys.specs.Keys.{AreBytes, IsHeld, prefix_number, values_key};
+ghost use Rattle.sort_keys.specs.Laws.{PrefixesStandFirst};
 ghost use Rattle.query_terms.specs.Outcome.{AnswersBy};
 ghost use Rattle.query_terms.specs.Rows.{seen};
 ghost use Rattle.query_terms.specs.Terms as tree;
@@ -18,11 +17,11 @@ ghost use Rattle.query_terms.specs.Values.{Row};
 ghost use Rattle.query_names.specs.Readings.{sort_keys};
 ghost use Rattle.query_totals.specs.Totals.{alone, arguments_at};
 ghost use Rattle.query_groups.specs.Groups.{AreAsLong, Keyed, entries_kept, listed};
-ghost use Rattle.query_groups.specs.Keeping.{AllSome, HaveHeldKeys, HoldGroups, TakesArguments, by_bytes, seen_entries, put_last};
+ghost use Rattle.query_groups.specs.Keeping.{AllSome, HasPrefix, HaveHeldKeys, HoldGroups, TakesArguments, by_bytes, key_order, put_last, seen_entries};
 
 use query_terms::{Env, Term, collation};
 use query_totals::{Tally, no_rows};
-use sort_keys::{keys_stand_as_values, put_key};
+use sort_keys::{keys_stand_as_values, prefix_of, put_key};
 use sqlval::{Collation, Fault, Field, Many, R, Value};
 use std::alloc::Global;
 use std::collections::BTreeMap;
@@ -35,13 +34,20 @@ pub(crate) struct Group {
     pub(crate) tallies: Vec<Tally>,
 }
 
+/// The bytes of a group's keys, with the number that the first sixteen spell, which tells most keys apart.
+#[derive(Drop, PartialEq, Eq, PartialOrd, Ord)]
+pub(crate) struct GroupKey {
+    pub(crate) prefix: u128,
+    pub(crate) bytes: Vec<u8>,
+}
+
 /// What is kept of each group of the rows so far, and no row: contracts see a list of entries in order, of each group the bytes of its
 /// keys, these, and what is kept of each aggregate.
 #[derive(Drop)]
 pub struct GroupTallies {
-    /// The bytes of a row's keys, while its group is looked up.
-    pub(crate) key: Vec<u8>,
-    pub(crate) by_key: BTreeMap<Vec<u8>, Group>,
+    /// The key of a row, while its group is looked up.
+    pub(crate) key: GroupKey,
+    pub(crate) by_key: BTreeMap<GroupKey, Group>,
 }
 
 impl Model for GroupTallies {
@@ -54,7 +60,7 @@ impl Model for GroupTallies {
 
     ghost view = { λ a. seen_entries a.by_key.entries };
 
-    ghost invariant = { λ a. HaveHeldKeys (seen_entries a.by_key.entries) };
+    ghost invariant = { λ a. HaveHeldKeys a.by_key.entries };
 }
 
 impl GroupTallies {
@@ -63,7 +69,10 @@ impl GroupTallies {
         ensures { result ≡ [] }
     {
         GroupTallies {
-            key: Vec::new(alloc),
+            key: GroupKey {
+                prefix: 0,
+                bytes: Vec::new(alloc),
+            },
             by_key: BTreeMap::new(alloc),
         }
     }
@@ -77,7 +86,7 @@ impl GroupTallies {
 }
 
 /// What is kept of each group, in order. (`Memory`.)
-fn in_order(alloc: Global, by_key: BTreeMap<Vec<u8>, Group>) -> R<Vec<(Many<Value>, Vec<Tally>)>>
+fn in_order(alloc: Global, by_key: BTreeMap<GroupKey, Group>) -> R<Vec<(Many<Value>, Vec<Tally>)>>
     ensures { IsOrMemory (λ groups. listed groups.items ≡ map (λ e. e.1) (seen_entries by_key.entries)) result }
 {
     let mut groups = Vec::with_capacity(alloc, by_key.len())?;
@@ -107,6 +116,14 @@ fn collation_at(key_terms: &[Term], place: usize) -> Collation
     }
 }
 
+/// The number that the first sixteen bytes spell.
+pub(crate) fn prefix_at(bytes: &[u8]) -> u128
+    ensures number { result ≡ prefix_number bytes.now }
+    ensures bytes { AreBytes bytes.now }
+{
+    prefix_of(bytes)
+}
+
 /// Writes the bytes of a row's keys.
 fn put_keys(out: &mut Vec<u8>, key_terms: &[Term], keys: &[Value]) -> R<()>
     ensures bytes { length keys.now ≡ length key_terms.now
@@ -131,18 +148,22 @@ pub(crate) fn begin_group(
     terms: &[Term],
     keys: Many<Value>,
     env: Env<'_>,
-    key: &[u8],
-    by_key: &mut BTreeMap<Vec<u8>, Group>,
+    key: &GroupKey,
+    by_key: &mut BTreeMap<GroupKey, Group>,
 ) -> R<()>
     ensures put { (ks : List Meant) (groups : List (List Keyed)) (now : List Row) → seen env.entry ≡ alone now
-        → key.now ≡ values_key (sort_keys ks) keys → AllSome groups → HoldGroups ks terms.now by_key.old.entries groups
-        → get_by (λ k. slice_cmp nat_cmp key.now k.items) by_key.old ≡ None
-        → TakesArguments terms.now now (HoldGroups ks terms.now by_key.new.entries (put_last (by_bytes ks) (keys, now) groups)) result }
-    ensures held { All IsHeld keys → HaveHeldKeys (seen_entries by_key.old.entries) → HaveHeldKeys (seen_entries by_key.new.entries) }
+        → HasPrefix key.now → key.now.bytes.items ≡ values_key (sort_keys ks) keys → AllSome groups → HoldGroups ks terms.now by_key.old.entries groups
+        → get_by (key_order key.now) by_key.old ≡ None
+        → PrefixesStandFirst → TakesArguments terms.now now (HoldGroups ks terms.now by_key.new.entries (put_last (by_bytes ks) (keys, now) groups)) result }
+    ensures held { HasPrefix key.now → All IsHeld keys → HaveHeldKeys by_key.old.entries → HaveHeldKeys by_key.new.entries }
 {
     let mut tallies = no_rows(alloc, terms)?;
     query_totals::add_row(alloc, terms, env, &mut tallies)?;
-    by_key.insert(Vec::from_slice(alloc, key)?, Group { keys, tallies })?;
+    let key = GroupKey {
+        prefix: key.prefix,
+        bytes: Vec::from_slice(alloc, key.bytes.as_slice())?,
+    };
+    by_key.insert(key, Group { keys, tallies })?;
     Ok(())
 }
 
@@ -152,13 +173,13 @@ fn put_row(
     terms: &[Term],
     keys: Many<Value>,
     env: Env<'_>,
-    key: &[u8],
-    by_key: &mut BTreeMap<Vec<u8>, Group>,
+    key: &GroupKey,
+    by_key: &mut BTreeMap<GroupKey, Group>,
 ) -> R<()>
     ensures put { (ks : List Meant) (groups : List (List Keyed)) (now : List Row) → seen env.entry ≡ alone now
-        → key.now ≡ values_key (sort_keys ks) keys → AllSome groups → HoldGroups ks terms.now by_key.old.entries groups
-        → TakesArguments terms.now now (HoldGroups ks terms.now by_key.new.entries (put_last (by_bytes ks) (keys, now) groups)) result }
-    ensures held { All IsHeld keys → HaveHeldKeys (seen_entries by_key.old.entries) → HaveHeldKeys (seen_entries by_key.new.entries) }
+        → HasPrefix key.now → key.now.bytes.items ≡ values_key (sort_keys ks) keys → AllSome groups → HoldGroups ks terms.now by_key.old.entries groups
+        → PrefixesStandFirst → TakesArguments terms.now now (HoldGroups ks terms.now by_key.new.entries (put_last (by_bytes ks) (keys, now) groups)) result }
+    ensures held { HasPrefix key.now → All IsHeld keys → HaveHeldKeys by_key.old.entries → HaveHeldKeys by_key.new.entries }
 {
     match by_key.get_mut(key) {
         Some(group) => query_totals::add_row(alloc, terms, env, &mut group.tallies),
@@ -182,14 +203,8 @@ pub fn add_row(
         λ vs. Ok (entries_kept key_terms.now terms.now (before ++ (keys, now) ∷ []))) result }
 {
     keys_stand_as_values();
-    groups.key.clear();
-    put_keys(&mut groups.key, key_terms, keys.as_slice())?;
-    put_row(
-        alloc,
-        terms,
-        keys,
-        env,
-        groups.key.as_slice(),
-        &mut groups.by_key,
-    )
+    groups.key.bytes.clear();
+    put_keys(&mut groups.key.bytes, key_terms, keys.as_slice())?;
+    groups.key.prefix = prefix_at(groups.key.bytes.as_slice());
+    put_row(alloc, terms, keys, env, &groups.key, &mut groups.by_key)
 }

@@ -5,15 +5,16 @@ ghost use Rattle.std.specs.List.{AllByRecursion};
 ghost use Rattle.sqlval.specs.Refusals.{◌then◌};
 ghost use Rattle.sqlval.specs.declared.value.Value.{Value as Kept};
 ghost use Rattle.sort_keys.specs.Keys.{values_key};
+ghost use Rattle.sort_keys.specs.Laws.{PrefixesStandFirst};
 ghost use Rattle.query_terms.specs.Outcome.{AnswersBy};
 ghost use Rattle.query_terms.specs.Rows.{seen};
 ghost use Rattle.query_terms.specs.Values.{Row};
 ghost use Rattle.query_names.specs.Readings.{sort_keys, values};
 ghost use Rattle.query_totals.specs.Totals.{alone, arguments_at};
 ghost use Rattle.query_groups.specs.Groups.{AreAsLong, Keyed, entries_kept};
-ghost use Rattle.query_groups.specs.Keeping.{AllSome, HaveHeldKeys, HoldGroups, IsHeldAt, TakesArguments, by_bytes, put_last, seen_entries};
+ghost use Rattle.query_groups.specs.Keeping.{AllSome, HasPrefix, HaveHeldKeys, HoldGroups, IsHeldAt, TakesArguments, by_bytes, put_last};
 
-use crate::kept::{Group, GroupTallies, begin_group};
+use crate::kept::{Group, GroupKey, GroupTallies, begin_group, prefix_at};
 use query_terms::{Env, Term, collation, evaluate};
 use sort_keys::{keys_stand_as_values, put_key};
 use sqlval::{Many, R, Value};
@@ -50,16 +51,17 @@ fn put_found(
     key_terms: &[Term],
     terms: &[Term],
     env: Env<'_>,
-    key: &[u8],
-    by_key: &mut BTreeMap<Vec<u8>, Group>,
+    key: &GroupKey,
+    by_key: &mut BTreeMap<GroupKey, Group>,
 ) -> R<()>
     ensures put { (groups : List (List Keyed)) (now : List Row) (keys : List Kept) → seen env.entry ≡ alone now
-        → values (seen env.entry) key_terms.now ≡ Ok keys → key.now ≡ values_key (sort_keys key_terms.now) keys
+        → values (seen env.entry) key_terms.now ≡ Ok keys → HasPrefix key.now
+        → key.now.bytes.items ≡ values_key (sort_keys key_terms.now) keys
         → AllSome groups → HoldGroups key_terms.now terms.now by_key.old.entries groups
-        → TakesArguments terms.now now
+        → PrefixesStandFirst → TakesArguments terms.now now
         (HoldGroups key_terms.now terms.now by_key.new.entries (put_last (by_bytes key_terms.now) (keys, now) groups)) result }
-    ensures held { AllByRecursion (IsHeldAt (seen env.entry)) key_terms.now → HaveHeldKeys (seen_entries by_key.old.entries)
-        → HaveHeldKeys (seen_entries by_key.new.entries) }
+    ensures held { AllByRecursion (IsHeldAt (seen env.entry)) key_terms.now → HasPrefix key.now
+        → HaveHeldKeys by_key.old.entries → HaveHeldKeys by_key.new.entries }
 {
     match by_key.get_mut(key) {
         Some(group) => query_totals::add_row(alloc, terms, env, &mut group.tallies),
@@ -84,14 +86,15 @@ pub fn take_row(
         λ vs. Ok (entries_kept key_terms.now terms.now (before ++ (keys, now) ∷ []))) result }
 {
     keys_stand_as_values();
-    groups.key.clear();
-    put_keys_at(alloc, &mut groups.key, key_terms, env)?;
+    groups.key.bytes.clear();
+    put_keys_at(alloc, &mut groups.key.bytes, key_terms, env)?;
+    groups.key.prefix = prefix_at(groups.key.bytes.as_slice());
     put_found(
         alloc,
         key_terms,
         terms,
         env,
-        groups.key.as_slice(),
+        &groups.key,
         &mut groups.by_key,
     )
 }
