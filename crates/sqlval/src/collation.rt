@@ -38,9 +38,11 @@ fn compare_folded(a: &[u8], b: &[u8]) -> Ordering
         let Some((y, ys)) = right.split_first() else {
             return Ordering::Greater;
         };
-        let order = x.to_ascii_lowercase().cmp(&y.to_ascii_lowercase());
-        if order != Ordering::Equal {
-            return order;
+        if *x != *y {
+            let order = x.to_ascii_lowercase().cmp(&y.to_ascii_lowercase());
+            if order != Ordering::Equal {
+                return order;
+            }
         }
         left = xs;
         right = ys;
