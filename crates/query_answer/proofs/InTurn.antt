@@ -13,7 +13,7 @@ use Rattle.query_terms.specs.Values.{Row}
 use Rattle.query_names.specs.Readings.{Sortable, combined, cut, in_order, once}
 use Rattle.query_names.specs.declared.reading.Reading.{Reading}
 use Rattle.query_answer.specs.Nesting.{Found, Named, beside_rows, given, is_left}
-use Rattle.query_answer.specs.Parts.{FollowOneAnother, GivesInOrder, Kept, answer_on, is_of_totals, is_row_by_row, kept_of, of_rows, part_of}
+use Rattle.query_answer.specs.Parts.{FollowOneAnother, GivesInOrder, Kept, answer_on, is_of_groups, is_of_totals, is_row_by_row, kept_of, of_rows, part_of}
 use Rattle.query_answer.proofs.Given.{given_alone, kept_alone, one_by_one}
 use Rattle.query_answer.proofs.PartRows.{all_of, alone, behind, kept_each, nothing_kept, part_is, refused_behind, rows_behind, stay_refused}
 use Rattle.query_answer.proofs.ShownRows.{equal_stay, otherwise}
@@ -33,7 +33,7 @@ module _ (q : Reading) (is : GivesInOrder q) where
       ∙ equal_stay xs
 
   pub in_turn : is_row_by_row q ≡ true
-  in_turn = λ i. (not (is.ungrouped i) || is_of_totals q) && is.alone i
+  in_turn = λ i. (not (is.ungrouped i) || (is_of_totals q || is_of_groups q)) && is.alone i
 
   -- ---- the answer is what is kept
 

@@ -1,5 +1,6 @@
 mod Checking
 pub mod AsDefined
+pub mod EachGroup
 pub mod Firsts
 pub mod Flows
 pub mod Given
@@ -11,9 +12,11 @@ pub mod Kept
 pub mod KeyOrders
 pub mod Levels
 pub mod Loaded
+pub mod LongKeys
 pub mod Misses
 pub mod Needed
 pub mod Outer
+pub mod PartGroups
 pub mod PartRows
 pub mod PartTotals
 pub mod Places

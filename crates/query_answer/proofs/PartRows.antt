@@ -1,6 +1,7 @@
 -- What is kept of parts of an only source's rows.
-use Rattle.std.proofs.Common.{◌≡◌, inl, inr, refl, sym, ap, subst, ◌∙◌, ℕ, zero, suc, ◌+◌, ◌<◌, ◌≤◌, arith, Bool, true, false, not, ◌&&◌, ◌||◌, List, [], ◌∷◌, ◌++◌, length, map, drop, slice_index_or, Ok, Err}
+use Rattle.std.proofs.Common.{◌≡◌, inl, inr, refl, sym, ap, subst, ◌∙◌, ℕ, zero, suc, ◌+◌, ◌<◌, ◌≤◌, arith, Bool, true, false, not, ◌&&◌, ◌||◌, ◌==◌, List, [], ◌∷◌, ◌++◌, length, map, drop, slice_index_or, Ok, Err}
 use Rattle.std.specs.Prelude.{IfErr, Result, if◌then◌else◌}
+use Rattle.std.specs.List.{list_all}
 use Rattle.std.proofs.lemmas.Bool.{false≢true}
 use Rattle.std.proofs.lemmas.List.{at_drop_more, append-nil}
 use Rattle.sqlval.specs.Faults.{IsNotDiskFault}
@@ -15,13 +16,15 @@ use Rattle.query_filter.specs.Passing.{passing}
 use Rattle.query_names.specs.Readings.{Sortable, combined, cut, env_of, in_order, nulls, once, rows_over}
 use Rattle.query_names.specs.declared.reading.Condition.{Condition}
 use Rattle.query_names.specs.declared.reading.Reading.{Reading}
-use Rattle.query_totals.specs.Totals.{tallies_over}
+use Rattle.query_totals.specs.Totals.{is_total, tallies_over}
+use Rattle.query_groups.specs.Groups.{entries_kept, is_of_group}
 use Rattle.query_answer.specs.Answers.{given_from}
 use Rattle.query_answer.specs.Groups.{of_groups}
-use Rattle.query_answer.specs.Nesting.{Found, Named, all_kept, at_leaf, beside_rows, given, is_left, joins_by, kept_if, kept_row, nest_from, onto, stepped, to_group, tried}
-use Rattle.query_answer.specs.Parts.{Kept, StayRefused, is_alone, is_of_totals, is_row_by_row, kept_of, of_row, of_rows, part_of}
+use Rattle.query_answer.specs.Nesting.{Found, Named, all_kept, at_leaf, beside_rows, given, is_left, joins_by, kept_if, kept_row, key_and_rows, nest_from, onto, stepped, to_group, tried}
+use Rattle.query_answer.specs.Parts.{HaveKeys, Kept, StayRefused, is_alone, is_of_groups, is_of_totals, is_row_by_row, kept_of, of_row, of_rows, part_of, tallied_of}
 use Rattle.query_answer.proofs.Flows.{followed_nothing, followed_twice, kept_rows}
 use Rattle.query_answer.proofs.Given.{given_alone, given_grouped, given_refused, kept_alone, kept_from, kept_grouped, one_by_one, with_keys}
+use Rattle.query_answer.proofs.LongKeys.{all_long}
 use Rattle.query_answer.proofs.Levels.{behind_found, refused_found, row_within}
 use Rattle.query_answer.proofs.Quiet.{combined_runs, refused_quietly}
 
@@ -48,11 +51,28 @@ other_of : (a b : Bool) → a ≡ false → (a || b) ≡ true → b ≡ true
 other_of false b isnt e = e
 other_of true b isnt e = absurd (false≢true (sym isnt))
 
-pub of_totals : (q : Reading) → is_row_by_row q ≡ true → q.is_grouped ≡ true → is_of_totals q ≡ true
-of_totals q e g = other_of (not q.is_grouped) (is_of_totals q) (ap not g) (first_of (not q.is_grouped || is_of_totals q) (is_alone q.sources) e)
+-- the one of two that can be
+with_none : (n a b : Bool) → ((n && a) || (not n && b)) ≡ true → n ≡ true → (n && a) ≡ true
+with_none true true b e is = refl
+with_none true false b e is = e
+with_none false a b e is = absurd (false≢true is)
+
+with_some : (n a b : Bool) → ((n && a) || (not n && b)) ≡ true → n ≡ false → (not n && b) ≡ true
+with_some true a b e isnt = absurd (false≢true (sym isnt))
+with_some false a b e isnt = e
+
+module _ (q : Reading) (e : is_row_by_row q ≡ true) (g : q.is_grouped ≡ true) where
+  one_of : (is_of_totals q || is_of_groups q) ≡ true
+  one_of = other_of (not q.is_grouped) (is_of_totals q || is_of_groups q) (ap not g) (first_of (not q.is_grouped || (is_of_totals q || is_of_groups q)) (is_alone q.sources) e)
+
+  pub of_totals : (length q.keys == 0) ≡ true → is_of_totals q ≡ true
+  of_totals n = with_none (length q.keys == 0) ((length q.order == 0) && list_all is_total q.results) ((length q.order == 0) && list_all is_of_group q.results) one_of n
+
+  pub of_some_groups : (length q.keys == 0) ≡ false → is_of_groups q ≡ true
+  of_some_groups n = with_some (length q.keys == 0) ((length q.order == 0) && list_all is_total q.results) ((length q.order == 0) && list_all is_of_group q.results) one_of n
 
 pub alone : (q : Reading) → is_row_by_row q ≡ true → (s : Named) × (q.sources ≡ s ∷ []) × (is_left s.1 ≡ false)
-alone q e = alone_is q.sources (second_of (not q.is_grouped || is_of_totals q) (is_alone q.sources) e)
+alone q e = alone_is q.sources (second_of (not q.is_grouped || (is_of_totals q || is_of_groups q)) (is_alone q.sources) e)
 
 -- ---- one row
 
@@ -115,12 +135,15 @@ abbrev pub all_of : Reading → Answer (List Found) → Answer Kept
 all_of q a = a then λ all. Ok (kept_of q all)
 
 abbrev kept_if_grouped : Reading → List Found → Bool → Kept
-kept_if_grouped q found b = if b then ([], tallies_over (map (λ f. f.1) found) q.results) else (map (λ f. f.0) found, [])
+kept_if_grouped q found b = if b then tallied_of q found (length q.keys == 0) else (map (λ f. f.0) found, [], [])
 
-pub kept_totals : (q : Reading) (found : List Found) → q.is_grouped ≡ true → kept_of q found ≡ ([], tallies_over (map (λ f. f.1) found) q.results)
-kept_totals q found g = ap (kept_if_grouped q found) g
+pub kept_totals : (q : Reading) (found : List Found) → q.is_grouped ≡ true → (length q.keys == 0) ≡ true → kept_of q found ≡ ([], tallies_over (map (λ f. f.1) found) q.results, [])
+kept_totals q found g n = ap (kept_if_grouped q found) g ∙ ap (tallied_of q found) n
 
-pub kept_each : (q : Reading) (found : List Found) → q.is_grouped ≡ false → kept_of q found ≡ (map (λ f. f.0) found, [])
+pub kept_groups : (q : Reading) (found : List Found) → q.is_grouped ≡ true → (length q.keys == 0) ≡ false → kept_of q found ≡ ([], [], entries_kept q.keys q.results (map key_and_rows found))
+kept_groups q found g n = ap (kept_if_grouped q found) g ∙ ap (tallied_of q found) n
+
+pub kept_each : (q : Reading) (found : List Found) → q.is_grouped ≡ false → kept_of q found ≡ (map (λ f. f.0) found, [], [])
 kept_each q found g = ap (kept_if_grouped q found) g
 
 -- an answer of which something is kept
@@ -155,10 +178,10 @@ nothing_kept q e = (let a = alone q e in part_is q a.0 [] a.1 a.2)
 -- (`q` says what is kept, and `p` is the same query with its WHERE prepared)
 module _ (p q : Reading) (c : Condition) (ss : List (List Row)) (rows : List Row) (i : ℕ) (xs : List Found) (total : Answer (List Found)) (same : ss ≡ rows ∷ []) (lt : i < length rows)
     (so_far : onto xs (of_rows p c (drop i rows)) ≡ total) where
-  pub rows_go_on : (new : Kept) → all_of q (onto xs (of_row p c (picked_rows ss (i ∷ [])))) ≡ Ok new → (ys : List Found) × (new ≡ kept_of q ys) × (onto ys (of_rows p c (drop (i + 1) rows)) ≡ total)
+  pub rows_go_on : (new : Kept) → all_of q (onto xs (of_row p c (picked_rows ss (i ∷ [])))) ≡ Ok new → (ys : List Found) × (new ≡ kept_of q ys) × (onto ys (of_rows p c (drop (i + 1) rows)) ≡ total) × (onto xs (of_row p c (picked_rows ss (i ∷ []))) ≡ Ok ys)
   rows_go_on new h =
       let was = was_kept q (onto xs (of_row p c (picked_rows ss (i ∷ [])))) new h in
-      (was.0, sym was.2, row_goes_on p c ss rows i xs total same lt so_far was.0 was.1)
+      (was.0, sym was.2, row_goes_on p c ss rows i xs total same lt so_far was.0 was.1, was.1)
 
   pub rows_stop : (fault : Fault) → IsRefusedBy (all_of q (onto xs (of_row p c (picked_rows ss (i ∷ []))))) fault → IsRefusedBy (all_of q total) fault
   rows_stop fault h =
@@ -234,10 +257,11 @@ module _ (q : Reading) (s : Named) (rows before : List Row) (e : is_row_by_row q
       ap (all_of q) (sym (behind (of_rows q s.1 before) (of_rows q s.1 rows) found h) ∙ ap collected (sym (rows_behind q s.1 before rows))) ∙ sym (part_is q s (before ++ rows) same left)
 
   pub part_given : {T : Type 0} (result : Result T Fault) (old new : Kept) → part_of q before ≡ Ok old
-      → ((found : List Found) → old ≡ kept_of q found → AnswersBy (λ u. new) (all_of q (onto found (of_rows q s.1 rows))) result) → AnswersBy (λ u. new) (part_of q (before ++ rows)) result
+      → ((found : List Found) → HaveKeys q found → old ≡ kept_of q found → AnswersBy (λ u. new) (all_of q (onto found (of_rows q s.1 rows))) result) → AnswersBy (λ u. new) (part_of q (before ++ rows)) result
   part_given result old new had given =
       let was = was_kept q (collected (of_rows q s.1 before)) old (sym (part_is q s before same left) ∙ had) in
-      subst (λ (a : Answer Kept). AnswersBy (λ u. new) a result) (more_is was.0 was.1) (given was.0 (sym was.2))
+      subst (λ (a : Answer Kept). AnswersBy (λ u. new) a result) (more_is was.0 was.1)
+      (given was.0 (all_long q (beside_rows q.sources (before ∷ [])) was.0 (rows_kept q s before same left ∙ was.1)) (sym was.2))
 
   pub part_quiet : (f : Fault) (new : Kept) → IsRefusedBy (part_of q (before ++ rows)) f → IsNotDiskFault f
   part_quiet f new h =

@@ -114,7 +114,7 @@ module _ (q : Reading) (is : GivesInOrder q) (s : Named) (same : q.sources ≡ s
   kept_unmade (Err x) r e = ap again e
     where
       again : Answer (List Row) → Answer Kept
-      again (Ok rows) = Ok ([], [])
+      again (Ok rows) = Ok ([], [], [])
       again (Err r) = Err r
 
   makes_quiet : (f : Fault) → IsRefusedBy (plain (answer_on q rows)) f → IsRefusedBy (part_of q rows) f
@@ -123,4 +123,4 @@ module _ (q : Reading) (is : GivesInOrder q) (s : Named) (same : q.sources ≡ s
 
   pub makes_calm : {T : Type 0} (result : Result T Fault) (new : List Row) → AnswersBy (λ u. new) (plain (answer_on q rows)) result → IfErr result IsNotDiskFault
   makes_calm (Ok u) new answers = tt
-  makes_calm (Err f) new answers = part_quiet q s rows [] (in_turn q is) same left f ([], []) (makes_quiet f answers)
+  makes_calm (Err f) new answers = part_quiet q s rows [] (in_turn q is) same left f ([], [], []) (makes_quiet f answers)

@@ -1,12 +1,13 @@
 -- Rows that stand in groups.
-use Rattle.std.specs.Prelude.{Bool, List, map}
+use Rattle.std.specs.Prelude.{Bool, List, [], map, Ok}
 use Rattle.std.specs.Ordering.{is_eq}
 use Rattle.sqlval.specs.Lists.{groups, sorted}
-use Rattle.sqlval.specs.Refusals.{Answer, all_answers}
+use Rattle.sqlval.specs.Refusals.{Answer, ◌then◌, all_answers}
 use Rattle.sqlval.specs.declared.value.Value.{Value}
 use Rattle.query_terms.specs.Rows.{picked_rows}
+use Rattle.query_terms.specs.Terms.{Term}
 use Rattle.query_terms.specs.Values.{Row}
-use Rattle.query_names.specs.Readings.{Sortable, group_env, grouped, sortable}
+use Rattle.query_names.specs.Readings.{Sortable, group_env, grouped, sortable, values}
 use Rattle.query_names.specs.declared.reading.Reading.{Reading}
 use Rattle.query_answer.specs.Sorting.{by_values}
 use Rattle.query_answer.specs.declared.results.FoundRow.{FoundRow}
@@ -36,3 +37,7 @@ of_runs q outer sources orders rows = all_answers (map (of_group q outer sources
 -- of each group, in the order of the keys
 abbrev pub of_groups : Reading → List Row → List Keyed → Answer (List Sortable)
 of_groups q outer rows = all_answers (map (λ group. sortable q (group_env outer group)) (grouped q.keys rows))
+
+-- what expressions give of a group, as a row that is sorted by nothing
+abbrev pub row_of_group : List Term → List Keyed → Answer Sortable
+row_of_group ts group = values (group_env [] group) ts then λ vs. Ok (vs, [])

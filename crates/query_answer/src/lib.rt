@@ -14,6 +14,7 @@ mod results;
 mod searches;
 mod shown;
 mod sorting;
+mod tallied;
 
 ghost use Rattle.query_answer.specs.Answers.{LoadsBeside};
 ghost use Rattle.query_answer.specs.Searches.{SearchesAsScans};

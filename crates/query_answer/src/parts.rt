@@ -1,6 +1,6 @@
 //! What a query of one source gives of its rows, part after part.
 
-ghost use Rattle.std.specs.Prelude.{◌≡◌, ◌∷◌, ◌++◌, [], List, Ok, IfErr, IsTrue, map, true};
+ghost use Rattle.std.specs.Prelude.{◌≡◌, ◌||◌, ◌∷◌, ◌++◌, [], List, Ok, IfErr, IsTrue, map, true};
 ghost use Rattle.sqlval.specs.Faults.{IsNotDiskFault};
 ghost use Rattle.sqlval.specs.Refusals.{◌then◌};
 ghost use Rattle.query_terms.specs.Outcome.{AnswersBy};
@@ -8,11 +8,13 @@ ghost use Rattle.query_terms.specs.Rows.{picked_rows};
 ghost use Rattle.query_terms.specs.Values.{Row};
 ghost use Rattle.query_answer.specs.Nesting.{Found, filtered_by, kept_row, onto};
 ghost use Rattle.query_answer.specs.Parts as meant;
-ghost use Rattle.query_answer.specs.Parts.{FollowOneAnother, GivesInOrder, StayRefused, kept_of, of_row, of_rows, part_of};
+ghost use Rattle.query_answer.specs.Parts.{FollowOneAnother, GivesInOrder, HaveKeys, StayRefused, kept_of, of_row, of_rows, part_of};
 
 use crate::nesting::{Loops, condition_of, is_left, joins};
 use crate::results::{FoundRow, found_row};
+use crate::tallied::keep_in_group;
 use query_filter::Filter;
+use query_groups::{GroupTallies, are_of_group};
 use query_names::{Condition, Reading};
 use query_terms::SourceRow;
 use query_totals::{Tally, add_row, are_totals, no_rows};
@@ -21,12 +23,13 @@ use std::alloc::Global;
 use std::array::from_ref;
 use std::marker::Model;
 
-/// What a query has kept of the rows so far: contracts see what it gives of each, with what that is sorted by, and what it keeps of each aggregate where
-/// it gives nothing but aggregates of all rows.
+/// What a query has kept of the rows so far: contracts see what it gives of each, with what that is sorted by, what it keeps of each aggregate where it
+/// gives nothing but aggregates of all rows, and what it keeps of each group where it gives nothing but keys and aggregates of these.
 #[derive(Drop)]
 pub struct GivenRows {
     pub(crate) rows: Vec<FoundRow>,
     pub(crate) tallies: Vec<Tally>,
+    pub(crate) groups: GroupTallies,
 }
 
 impl Model for GivenRows {
@@ -36,7 +39,7 @@ impl Model for GivenRows {
 
     ghost Value = { Kept };
 
-    ghost view = { λ given. (map shown given.rows.items, given.tallies.items) };
+    ghost view = { λ given. (map shown given.rows.items, given.tallies.items, given.groups) };
 }
 
 impl GivenRows {
@@ -49,12 +52,17 @@ impl GivenRows {
         ensures { IsOrMemory (λ given. is_row_by_row reading.now ≡ true → part_of reading.now [] ≡ Ok given) result }
     {
         let rows = Vec::new(alloc);
-        let tallies = if reading.is_grouped {
+        let tallies = if reading.is_grouped && reading.keys.len() == 0 {
             no_rows(alloc, reading.results.as_slice())?
         } else {
             Vec::new(alloc)
         };
-        Ok(GivenRows { rows, tallies })
+        let groups = GroupTallies::new(alloc);
+        Ok(GivenRows {
+            rows,
+            tallies,
+            groups,
+        })
     }
 }
 
@@ -75,11 +83,26 @@ fn is_of_totals(reading: &Reading) -> bool
     reading.keys.len() == 0 && reading.order.len() == 0 && are_totals(reading.results.as_slice())
 }
 
-/// Whether a query takes its rows one by one: it has one source, and makes no groups, or gives nothing but aggregates of all rows.
+/// Whether a query with keys gives nothing but keys and aggregates of each group, in the order of the keys.
+fn is_of_groups(reading: &Reading) -> bool
+    ensures { result ≡ meant.is_of_groups reading.now }
+{
+    reading.keys.len() != 0 && reading.order.len() == 0 && are_of_group(reading.results.as_slice())
+}
+
+/// Whether a query that makes groups needs no row of them.
+fn is_tallied(reading: &Reading) -> bool
+    ensures { result ≡ (meant.is_of_totals reading.now || meant.is_of_groups reading.now) }
+{
+    is_of_totals(reading) || is_of_groups(reading)
+}
+
+/// Whether a query takes its rows one by one: it has one source, and makes no groups, or gives nothing but aggregates of all rows, or keys and aggregates of
+/// each group.
 pub fn is_row_by_row(reading: &Reading) -> bool
     ensures { result ≡ meant.is_row_by_row reading.now }
 {
-    (!reading.is_grouped || is_of_totals(reading)) && is_alone(reading.sources.as_slice())
+    (!reading.is_grouped || is_tallied(reading)) && is_alone(reading.sources.as_slice())
 }
 
 /// Whether a query gives a row for each row of its only source that WHERE keeps, in their order.
@@ -93,24 +116,24 @@ pub fn gives_in_order(reading: &Reading) -> bool
     reading.order.len() == 0 && is_alone(reading.sources.as_slice())
 }
 
-/// Keeps a row that WHERE keeps: what is given of it, or its values in each aggregate.
+/// Keeps a row that WHERE keeps: what is given of it, or its values in each aggregate, of its group where there are keys.
 fn keep_row(alloc: Global, loops: Loops<'_>, picked: &[usize], found: &mut GivenRows) -> R<()>
     requires { meant.is_row_by_row loops.reading.now ≡ true }
-    ensures { (before : List Found) → found.old ≡ kept_of loops.entry.reading.now before
+    ensures { (before : List Found) → HaveKeys loops.entry.reading.now before
+        → found.old ≡ kept_of loops.entry.reading.now before
         → AnswersBy (λ u. found.new) (kept_row loops.entry.reading.now
         (picked_rows loops.entry.sources.now picked.now) then λ f. Ok (kept_of loops.entry.reading.now (before ++ f ∷ []))) result }
 {
     let env = loops.env(picked);
-    if loops.reading.is_grouped {
-        add_row(
-            alloc,
-            loops.reading.results.as_slice(),
-            env,
-            &mut found.tallies,
-        )
-    } else {
+    if !loops.reading.is_grouped {
         found.rows.push(found_row(alloc, loops.reading, env)?)?;
-        Ok(())
+        return Ok(());
+    }
+    if loops.reading.keys.len() == 0 {
+        let terms = loops.reading.results.as_slice();
+        add_row(alloc, terms, env, &mut found.tallies)
+    } else {
+        keep_in_group(alloc, loops.reading, env, &mut found.groups)
     }
 }
 
@@ -123,7 +146,8 @@ fn give_row(
     found: &mut GivenRows,
 ) -> R<()>
     requires { meant.is_row_by_row loops.reading.now ≡ true }
-    ensures { (before : List Found) → found.old ≡ kept_of loops.entry.reading.now before
+    ensures { (before : List Found) → HaveKeys loops.entry.reading.now before
+        → found.old ≡ kept_of loops.entry.reading.now before
         → AnswersBy (λ u. found.new)
         (onto before (of_row (filtered_by loops.entry.filter.now loops.entry.reading.now) condition.now
         (picked_rows loops.entry.sources.now (index ∷ []))) then λ all. Ok (kept_of loops.entry.reading.now all)) result }
@@ -148,7 +172,8 @@ fn give_each(
 ) -> R<()>
     requires sources { loops.sources.now ≡ rows.now ∷ [] }
     requires row_by_row { meant.is_row_by_row loops.reading.now ≡ true }
-    ensures { (before : List Found) → found.old ≡ kept_of loops.entry.reading.now before
+    ensures { (before : List Found) → HaveKeys loops.entry.reading.now before
+        → found.old ≡ kept_of loops.entry.reading.now before
         → AnswersBy (λ u. found.new)
         (onto before (of_rows (filtered_by loops.entry.filter.now loops.entry.reading.now) condition.now
         rows.now) then λ all. Ok (kept_of loops.entry.reading.now all)) result }
