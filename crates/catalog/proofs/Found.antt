@@ -180,12 +180,17 @@ value_some : (found : Option (Bor (Rc Table Global))) → is_some found ≡ is_s
 value_some None = refl
 value_some (Some t) = refl
 
+-- whether a table has a name, by the table that was looked for
+pub table_found : (name : Name) (tables : List Table) (found : Option (Bor (Rc Table Global))) (b : Bool) → b ≡ is_some found
+    → option_map (λ (t : Bor (Rc Table Global)). t.now.value) found ≡ table_named name tables → b ≡ list_any (is_table name) tables
+table_found name tables found b some is = some ∙ value_some found ∙ ap is_some is ∙ table_any name tables
+
 -- a name of a table or of an index, by the table that was looked for
 pub any_found : (name : Name) (tables : List Table) (found : Option (Bor (Rc Table Global))) (b : Bool) → b ≡ is_some found
     → option_map (λ (t : Bor (Rc Table Global)). t.now.value) found ≡ table_named name tables
     → list_any (has_table_name name) tables ≡ (b || list_any (has_index name) tables)
 any_found name tables found b some is =
-    any_either name tables ∙ sym (ap (λ it. it || list_any (has_index name) tables) (some ∙ value_some found ∙ ap is_some is ∙ table_any name tables))
+    any_either name tables ∙ sym (ap (λ it. it || list_any (has_index name) tables) (table_found name tables found b some is))
 
 found_or_behind : (rows_at : ℕ → List (ℤ × List Value)) (behind : Option Object) (found : Option Table) → is_some (as_object rows_at behind found) ≡ (is_some found || is_some behind)
 found_or_behind rows_at behind None = refl

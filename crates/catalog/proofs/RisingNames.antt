@@ -1,85 +1,21 @@
--- Tables by rising name: where that of a name stands, one more among them, some of them, and others in their place.
-use Rattle.std.proofs.Common.{◌≡◌, refl, sym, ap, ◌∙◌, subst, ℕ, zero, suc, ◌<◌, ◌≤◌, Bool, true, false, not, cond, List, [], ◌∷◌, length, filter, slice_index_or, Some, None, arith}
-use Rattle.std.proofs.lemmas.Bool.{false≢true}
-use Rattle.std.proofs.lemmas.Cmp.{nat_list_cmp_total}
-use Rattle.std.proofs.lemmas.Map.Lookups.{exact_bytes}
-use Rattle.std.proofs.lemmas.Map.Text.{is_eq-slice_cmp}
-use Rattle.std.specs.Prelude.{Result, Ok, Err, IfOk, IfErr, option_map}
+-- Tables by rising name: the one that has a name, one more among them, some of them, and others in their place.
+use Rattle.std.proofs.Common.{◌≡◌, refl, sym, ap, ◌∙◌, subst, ℕ, zero, suc, ◌<◌, Bool, true, false, not, cond, List, [], ◌∷◌, length, slice_index_or, Some, None, arith}
+use Rattle.std.specs.Prelude.{option_map}
 use Rattle.std.specs.List.{AllByRecursion, find, insert}
-use Rattle.std.specs.List.Sorted.{IsBinarySearchResult, IsNonDecreasingBy}
-use Rattle.std.specs.Ordering.{is_eq, ordering_index, ordering_reverse}
 use Rattle.std.specs.Str.{bytes_eq}
 use Rattle.std.specs.declared.alloc.Global.{Global}
-use Rattle.std.specs.declared.cmp.Ordering.{Ordering}
-use Rattle.std.specs.declared.cmp.Ordering.TheVariants.{Less, Equal, Greater}
+use Rattle.std.specs.declared.cmp.Ordering.TheVariants.{Less}
 use Rattle.std.specs.declared.rc.Rc.{Rc}
 use Rattle.sqlval.specs.Names.{folded, is_same_name}
-use Rattle.catalog.specs.ByName.{AreByName, HasNameAt, IsGapOfName, Rise, compared_names, in_handles}
+use Rattle.catalog.specs.ByName.{AreByName, IsGapOfName, Rise, compared_names, in_handles, table_name}
 use Rattle.catalog.specs.Database.{Name, name_order}
 use Rattle.catalog.specs.Listed.{is_shared, is_table, replaced_by, with_replaced, without_table}
 use Rattle.catalog.specs.declared.tables.Table.{Table}
+use Rattle.catalog.proofs.Rising.{gap_rest, less_differs, greater_differs, rise_insert, rise_left, same_folded, shared_insert}
 use Rattle.catalog.proofs.Sharing.{handle_value, shared_found}
 
 abbrev Handle : Type 0
 Handle = Rc Table Global
-
--- ---- the order of names
-
-tests : (a b : Name) → is_same_name a b ≡ is_eq (compared_names a b)
-tests a b = sym (is_eq-slice_cmp (folded a) (folded b))
-
-less_differs : (a b : Name) → compared_names a b ≡ Less → is_same_name a b ≡ false
-less_differs a b e = tests a b ∙ ap is_eq e
-
-greater_differs : (a b : Name) → compared_names a b ≡ Greater → is_same_name a b ≡ false
-greater_differs a b e = tests a b ∙ ap is_eq e
-
-equal_same : (a b : Name) → compared_names a b ≡ Equal → is_same_name a b ≡ true
-equal_same a b e = tests a b ∙ ap is_eq e
-
-equal : (o : Ordering) → is_eq o ≡ true → o ≡ Equal
-equal Less e = absurd (false≢true e)
-equal Equal e = refl
-equal Greater e = absurd (false≢true e)
-
-same_folded : (a b : Name) → is_same_name a b ≡ true → folded a ≡ folded b
-same_folded a b e = exact_bytes (folded a) (folded b) (equal (compared_names a b) (sym (tests a b) ∙ e))
-
-at_most : (o : Ordering) → ordering_index o ≤ 2
-at_most Less = omega arith
-at_most Equal = omega arith
-at_most Greater = omega arith
-
-index_upto : (x y n : List ℕ) → name_order x y ≡ Less → ordering_index (name_order x n) ≤ ordering_index (name_order y n)
-index_upto x y n e = by (name_order y n) refl
-  where
-    by : (o : Ordering) → name_order y n ≡ o → ordering_index (name_order x n) ≤ ordering_index o
-    by Less f = subst (λ (r : Ordering). ordering_index r ≤ 0) (sym (nat_list_cmp_total.trans x y n e f)) (omega arith)
-    by Equal f = subst (λ (r : Ordering). ordering_index r ≤ 1) (sym (subst (λ (m : List ℕ). name_order x m ≡ Less) (exact_bytes y n f) e)) (omega arith)
-    by Greater f = at_most (name_order x n)
-
--- ---- where a name stands
-
-first_upto : (h : Handle) (hs : List Handle) (name : Name) → AllByRecursion (λ u. compared_names h.value.name u.name ≡ Less) (in_handles hs) → (j : ℕ) (d : Handle) → j < length hs
-    → ordering_index (compared_names h.value.name name) ≤ ordering_index (compared_names (slice_index_or hs j d).value.name name)
-first_upto h [] name all j d lt = absurd (omega (arith, lt))
-first_upto h (k ∷ hs) name all zero d lt = index_upto (folded h.value.name) (folded k.value.name) (folded name) all.0
-first_upto h (k ∷ hs) name all (suc j) d lt = first_upto h hs name all.1 j d (omega (arith, lt))
-
-never_falls : (hs : List Handle) (name : Name) → Rise (in_handles hs) → IsNonDecreasingBy (λ (h : Handle). ordering_index (compared_names h.value.name name)) hs
-never_falls [] name rise i j d le lt = absurd (omega (arith, lt))
-never_falls (h ∷ hs) name rise zero zero d le lt = omega arith
-never_falls (h ∷ hs) name rise zero (suc j) d le lt = first_upto h hs name rise.0 j d (omega (arith, lt))
-never_falls (h ∷ hs) name rise (suc i) zero d le lt = absurd (omega (arith, le))
-never_falls (h ∷ hs) name rise (suc i) (suc j) d le lt = never_falls hs name rise.1 i j d (omega (arith, le)) (omega (arith, lt))
-
-pub found : (hs : List Handle) (name : Name) (r : Result ℕ ℕ) → IsBinarySearchResult (λ (h : Handle). compared_names h.value.name name) hs r → IfOk r (HasNameAt name hs)
-found hs name (Ok at) is = λ d. equal_same (slice_index_or hs at d).value.name name (is d)
-found hs name (Err at) is = tt
-
-pub gap : (hs : List Handle) (name : Name) (r : Result ℕ ℕ) → IsBinarySearchResult (λ (h : Handle). compared_names h.value.name name) hs r → Rise (in_handles hs) → IfErr r (IsGapOfName name hs)
-gap hs name (Ok at) is rise = tt
-gap hs name (Err at) is rise = is (never_falls hs name rise)
 
 -- ---- what is found
 
@@ -102,53 +38,21 @@ found_is name (h ∷ hs) (suc i) d rise lt e =
     ap (λ b. cond b (Some h) (find (is_shared name) hs)) (other name h (slice_index_or hs i d) (less_at h hs i d rise.0 (omega (arith, lt))) e)
     ∙ found_is name hs i d rise.1 (omega (arith, lt)) e
 
-gap_rest : (name : Name) (h : Handle) (hs : List Handle) (i : ℕ) → IsGapOfName name (h ∷ hs) (suc i) → IsGapOfName name hs i
-gap_rest name h hs i is = (λ k d low lt. is.0 (suc k) d (omega arith) (omega (arith, lt)), λ k d low lt. is.1 (suc k) d (omega (arith, low)) (omega (arith, lt)))
-
 -- none, where the name has a gap
-pub none_is : (name : Name) (hs : List Handle) (i : ℕ) → IsGapOfName name hs i → find (is_shared name) hs ≡ None
+pub none_is : (name : Name) (hs : List Handle) (i : ℕ) → IsGapOfName table_name name hs i → find (is_shared name) hs ≡ None
 none_is name [] i is = refl
 none_is name (h ∷ hs) zero is =
     ap (λ b. cond b (Some h) (find (is_shared name) hs)) (greater_differs h.value.name name (is.1 0 h (omega arith) (omega arith)))
     ∙ none_is name hs zero (λ k d low lt. absurd (omega (arith, lt)), λ k d low lt. is.1 (suc k) d (omega arith) (omega (arith, lt)))
 none_is name (h ∷ hs) (suc i) is =
     ap (λ b. cond b (Some h) (find (is_shared name) hs)) (less_differs h.value.name name (is.0 0 h (omega arith) (omega arith)))
-    ∙ none_is name hs i (gap_rest name h hs i is)
+    ∙ none_is name hs i (gap_rest table_name name h hs i is)
 
 -- one name in other letters
 same_find : (a b : Name) (ts : List Table) → folded a ≡ folded b → find (is_table a) ts ≡ find (is_table b) ts
 same_find a b ts e = ap (λ (m : List ℕ). find (λ (t : Table). bytes_eq (folded t.name) m) ts) e
 
 -- ---- one more
-
-shared_insert : (hs : List Handle) (i : ℕ) (h : Handle) → in_handles (insert hs i h) ≡ insert (in_handles hs) i h.value
-shared_insert [] zero h = refl
-shared_insert [] (suc i) h = refl
-shared_insert (k ∷ hs) zero h = refl
-shared_insert (k ∷ hs) (suc i) h = ap (λ ts. k.value ∷ ts) (shared_insert hs i h)
-
-all_insert : (P : Table → Type 0) (hs : List Handle) (i : ℕ) (h : Handle) → P h.value → AllByRecursion P (in_handles hs) → AllByRecursion P (in_handles (insert hs i h))
-all_insert P [] zero h p all = (p, tt)
-all_insert P [] (suc i) h p all = (p, tt)
-all_insert P (k ∷ hs) zero h p all = (p, all)
-all_insert P (k ∷ hs) (suc i) h p all = (all.0, all_insert P hs i h p all.1)
-
-all_after : (h : Handle) (hs : List Handle) → ((j : ℕ) (d : Handle) → j < length hs → compared_names (slice_index_or hs j d).value.name h.value.name ≡ Greater)
-    → AllByRecursion (λ u. compared_names h.value.name u.name ≡ Less) (in_handles hs)
-all_after h [] each = tt
-all_after h (k ∷ hs) each = (
-  nat_list_cmp_total.antisymm (folded h.value.name) (folded k.value.name) ∙ ap ordering_reverse (each 0 k (omega arith)),
-  all_after h hs (λ j d lt. each (suc j) d (omega (arith, lt))),
-)
-
-rise_insert : (hs : List Handle) (i : ℕ) (h : Handle) → IsGapOfName h.value.name hs i → Rise (in_handles hs) → Rise (in_handles (insert hs i h))
-rise_insert [] zero h is rise = (tt, tt)
-rise_insert [] (suc i) h is rise = (tt, tt)
-rise_insert (k ∷ hs) zero h is rise = (all_after h (k ∷ hs) (λ j d lt. is.1 j d (omega arith) lt), rise)
-rise_insert (k ∷ hs) (suc i) h is rise = (
-  all_insert (λ u. compared_names k.value.name u.name ≡ Less) hs i h (is.0 0 k (omega arith) (omega arith)) rise.0,
-  rise_insert hs i h (gap_rest h.value.name k hs i is) rise.1,
-)
 
 find_past : (p : Table → Bool) (x : Table) (xs : List Table) (i : ℕ) → p x ≡ false → find p (insert xs i x) ≡ find p xs
 find_past p x [] zero e = ap (λ b. cond b (Some x) None) e
@@ -176,32 +80,16 @@ first_more tables ts t i place first none name = by (is_same_name t.name name) r
         find_new (is_table name) t ts i e gone ∙ sym (find_new (is_table name) t tables place e (sym (first name) ∙ gone))
     by false e = find_past (is_table name) t ts i e ∙ (first name ∙ sym (find_past (is_table name) t tables place e))
 
-pub more_by_name : (hs : List Handle) (i : ℕ) (h : Handle) → (Rise (in_handles hs) → IsGapOfName h.value.name hs i) → (tables : List Table) (place : ℕ) → AreByName tables (in_handles hs)
+pub more_by_name : (hs : List Handle) (i : ℕ) (h : Handle) → (Rise (in_handles hs) → IsGapOfName table_name h.value.name hs i) → (tables : List Table) (place : ℕ) → AreByName tables (in_handles hs)
     → AreByName (insert tables place h.value) (in_handles (insert hs i h))
 more_by_name hs i h is tables place are =
     let none : find (is_table h.value.name) (in_handles hs) ≡ None = sym (shared_found (is_table h.value.name) hs) ∙ ap (option_map handle_value) (none_is h.value.name hs i (is are.rise)) in
     record {
-      rise = rise_insert hs i h (is are.rise) are.rise;
+      rise = rise_insert table_name hs i h (is are.rise) are.rise;
       first = λ name. ap (find (is_table name)) (shared_insert hs i h) ∙ first_more tables (in_handles hs) h.value i place are.first none name;
     }
 
 -- ---- those of other names
-
-all_left : (P : Table → Type 0) (q : Table → Bool) (ts : List Table) → AllByRecursion P ts → AllByRecursion P (filter q ts)
-all_left P q [] all = tt
-all_left P q (t ∷ ts) all = by (q t) (all_left P q ts all.1)
-  where
-    by : (b : Bool) → AllByRecursion P (filter q ts) → AllByRecursion P (cond b (t ∷ filter q ts) (filter q ts))
-    by true rest = (all.0, rest)
-    by false rest = rest
-
-rise_left : (q : Table → Bool) (ts : List Table) → Rise ts → Rise (filter q ts)
-rise_left q [] rise = tt
-rise_left q (t ∷ ts) rise = by (q t) (all_left (λ u. compared_names t.name u.name ≡ Less) q ts rise.0) (rise_left q ts rise.1)
-  where
-    by : (b : Bool) → AllByRecursion (λ u. compared_names t.name u.name ≡ Less) (filter q ts) → Rise (filter q ts) → Rise (cond b (t ∷ filter q ts) (filter q ts))
-    by true all rest = (all, rest)
-    by false all rest = rest
 
 none_left : (name : Name) (ts : List Table) → find (is_table name) (without_table name ts) ≡ None
 none_left name [] = refl
@@ -224,7 +112,7 @@ others_left name n (t ∷ ts) other = by (is_same_name t.name name) refl (others
 
 pub less_by_name : (name : Name) (tables ts : List Table) → AreByName tables ts → AreByName (without_table name tables) (without_table name ts)
 less_by_name name tables ts are = record {
-  rise = rise_left (λ (t : Table). not (is_table name t)) ts are.rise;
+  rise = rise_left table_name (λ (t : Table). not (is_table name t)) ts are.rise;
   first = λ n. by n (is_same_name name n) refl;
 }
   where

@@ -1,4 +1,4 @@
--- Tables by rising name, among which that of a name is found by halves.
+-- What lies by rising name, so that what has a name is found by halves; and tables that do.
 use Rattle.std.specs.Prelude.{◌≡◌, ℕ, true, List, [], ◌∷◌, map, slice_index_or}
 use Rattle.std.specs.List.{AllByRecursion, find}
 use Rattle.std.specs.List.Sorted.{IsPartitionPoint}
@@ -14,24 +14,32 @@ use Rattle.catalog.specs.declared.tables.Table.{Table}
 abbrev pub compared_names : Name → Name → Ordering
 compared_names a b = name_order (folded a) (folded b)
 
--- the names rise, each once
+-- the names of these rise, each once
+abbrev pub RiseBy : {A : Type 0} → (A → Name) → List A → Type 0
+RiseBy own [] = Unit {0}
+RiseBy own (x ∷ xs) = AllByRecursion (λ y. compared_names (own x) (own y) ≡ Less) xs × RiseBy own xs
+
+-- the name of a table
+abbrev pub table_name : Table → Name
+table_name table = table.name
+
+-- the names of tables rise, each once
 abbrev pub Rise : List Table → Type 0
-Rise [] = Unit {0}
-Rise (t ∷ ts) = AllByRecursion (λ u. compared_names t.name u.name ≡ Less) ts × Rise ts
+Rise tables = RiseBy table_name tables
 
 -- these tables by rising name: of each name that one of them has the first
 pub record AreByName (tables by_name : List Table) : Type 0 where
   pub rise : Rise by_name
   pub first : (name : Name) → find (λ t. is_same_name t.name name) by_name ≡ find (λ t. is_same_name t.name name) tables
 
--- the tables of handles
-abbrev pub in_handles : List (Rc Table Global) → List Table
+-- what handles share
+abbrev pub in_handles : {A : Type 0} → List (Rc A Global) → List A
 in_handles handles = map (λ handle. handle.value) handles
 
--- the table at a place has this name
-abbrev pub HasNameAt : Name → List (Rc Table Global) → ℕ → Type 0
-HasNameAt name handles place = (d : Rc Table Global) → is_same_name (slice_index_or handles place d).value.name name ≡ true
+-- what stands at a place has this name
+abbrev pub HasNameAt : {A : Type 0} → (A → Name) → Name → List (Rc A Global) → ℕ → Type 0
+HasNameAt {A} own name handles place = (d : Rc A Global) → is_same_name (own (slice_index_or handles place d).value) name ≡ true
 
--- the tables before a place have names before this one, and those from it on names after it
-abbrev pub IsGapOfName : Name → List (Rc Table Global) → ℕ → Type 0
-IsGapOfName name handles place = IsPartitionPoint (λ handle. compared_names handle.value.name name ≡ Less) (λ handle. compared_names handle.value.name name ≡ Greater) handles place
+-- those before a place have names before this one, and those from it on names after it
+abbrev pub IsGapOfName : {A : Type 0} → (A → Name) → Name → List (Rc A Global) → ℕ → Type 0
+IsGapOfName own name handles place = IsPartitionPoint (λ handle. compared_names (own handle.value) name ≡ Less) (λ handle. compared_names (own handle.value) name ≡ Greater) handles place

@@ -1,14 +1,17 @@
-//! Tables that are found by their names, by halves.
+//! Tables that are found by their names, and by those of their indexes, by halves.
 
 ghost use Rattle.std.specs.Prelude.{◌≡◌, ◌++◌, ◌∷◌, [], ℕ, List, IfErr, IfOk, IsTrue, OnErr, OnOk, length, option_map};
-ghost use Rattle.std.specs.List.{find, insert};
+ghost use Rattle.std.specs.List.{find, insert, list_any};
 ghost use Rattle.std.specs.List.Sorted.{IsSearchInRange};
 ghost use Rattle.sqlval.specs.Faults.{IsOrMemory};
-ghost use Rattle.catalog.specs.ByName.{AreByName, HasNameAt, IsGapOfName, Rise, compared_names, in_handles};
+ghost use Rattle.catalog.specs.ByName.{AreByName, HasNameAt, IsGapOfName, Rise, compared_names, in_handles, table_name};
 ghost use Rattle.catalog.specs.Listed as listed;
 ghost use Rattle.catalog.specs.declared.tables.Table.{Table};
 
-use crate::handles::{handle_named, handles_copy, handles_replaced, other_handles, put_at};
+use crate::by_index::{IndexHandle, indexes_of_others, place_of_index, put_indexes};
+use crate::handles::{
+    handle_named, handles_copy, handles_replaced, is_index_named, other_handles, put_at,
+};
 use crate::tables::Table;
 use sqlval::{Collation, Fault, Field, R, compare_fields};
 use std::alloc::Global;
@@ -22,12 +25,15 @@ pub(crate) struct Tables {
     listed: Vec<Rc<Table>>,
     /// The first table of each name, by rising name without the case of letters.
     by_name: Vec<Rc<Table>>,
-    /// Whether `by_name` is so. Else it isn't looked at, as where two tables have one name.
+    /// The indexes of all tables, by rising name in the same way.
+    indexes: Vec<Rc<IndexHandle>>,
+    /// Whether `by_name` and `indexes` are so. Else they aren't looked at, as where two tables or two indexes have one name.
     is_by_name: bool,
 }
 
 impl Model for Tables {
     ghost use Rattle.std.specs.Prelude.{IsTrue, List};
+    ghost use Rattle.catalog.specs.ByIndex.{AreIndexesByName};
     ghost use Rattle.catalog.specs.ByName.{AreByName, in_handles};
     ghost use Rattle.catalog.specs.declared.tables.Table.{Table};
 
@@ -40,27 +46,24 @@ impl Model for Tables {
 
     ghost view = { λ t. in_handles t.listed.items };
 
-    ghost invariant = { λ t. IsTrue t.is_by_name → AreByName (in_handles t.listed.items) (in_handles t.by_name.items) };
+    ghost invariant = { λ t. IsTrue t.is_by_name → AreByName (in_handles t.listed.items) (in_handles t.by_name.items)
+        × AreIndexesByName (in_handles t.listed.items) (in_handles t.indexes.items) };
 }
 
-/// How the name of a table compares with a name, without the case of letters.
-fn compare_name(table: &Table, name: &str) -> Ordering
-    ensures { result ≡ compared_names table.now.name name.now }
+/// How two names compare, without the case of letters.
+pub(crate) fn compare_names(one: &str, other: &str) -> Ordering
+    ensures { result ≡ compared_names one.now other.now }
 {
-    compare_fields(
-        Field::Text(table.name.as_str()),
-        Field::Text(name),
-        Collation::NoCase,
-    )
+    compare_fields(Field::Text(one), Field::Text(other), Collation::NoCase)
 }
 
 /// The place of the table of a name among tables by rising name, or the place where it would go.
 fn place_by_name(by_name: &[Rc<Table>], name: &str) -> Result<usize, usize>
     ensures within { IsSearchInRange result (length by_name.now) }
-    ensures found { IfOk result (HasNameAt name.now by_name.now) }
-    ensures gap { Rise (in_handles by_name.now) → IfErr result (IsGapOfName name.now by_name.now) }
+    ensures found { IfOk result (HasNameAt table_name name.now by_name.now) }
+    ensures gap { Rise (in_handles by_name.now) → IfErr result (IsGapOfName table_name name.now by_name.now) }
 {
-    by_name.binary_search_by(|table| compare_name(table, name))
+    by_name.binary_search_by(|table| compare_names(table.name.as_str(), name))
 }
 
 /// The table of a name among tables by rising name.
@@ -98,6 +101,7 @@ impl Tables {
         Tables {
             listed: Vec::new(alloc),
             by_name: Vec::new(alloc),
+            indexes: Vec::new(alloc),
             is_by_name: true,
         }
     }
@@ -120,8 +124,19 @@ impl Tables {
         }
     }
 
+    /// Whether one of the tables has an index of a name.
+    pub(crate) fn has_index(&self, name: &str) -> bool
+        ensures { result ≡ list_any (listed.has_index name.now) self.now }
+    {
+        if self.is_by_name {
+            place_of_index(self.indexes.as_slice(), name).is_ok()
+        } else {
+            is_index_named(self.listed.as_slice(), name)
+        }
+    }
+
     /// Puts a table at a place, or after the last where there are fewer. An `Err` changes nothing. (`Memory` alone.)
-    pub(crate) fn put(&mut self, place: usize, table: Rc<Table>) -> R<()>
+    pub(crate) fn put(&mut self, alloc: Global, place: usize, table: Rc<Table>) -> R<()>
         ensures added { OnOk result (self.new ≡ insert self.old place table.value) }
         ensures unchanged { OnErr result (self.new ≡ self.old) }
         ensures refused { IfErr result (λ fault. fault ≡ Fault.Memory) }
@@ -129,20 +144,21 @@ impl Tables {
         let twin = table.clone()?;
         let was_by_name = self.is_by_name;
         self.is_by_name = false;
+        let are_new = put_indexes(alloc, &mut self.indexes, &table)?;
         let is_new = put_by_name(&mut self.by_name, twin)?;
         put_at(&mut self.listed, place, table)?;
-        self.is_by_name = was_by_name && is_new;
+        self.is_by_name = was_by_name && are_new && is_new;
         Ok(())
     }
 
     /// Adds a table after the others. An `Err` changes nothing. (`Memory` alone.)
-    pub(crate) fn push(&mut self, table: Rc<Table>) -> R<()>
+    pub(crate) fn push(&mut self, alloc: Global, table: Rc<Table>) -> R<()>
         ensures added { OnOk result (self.new ≡ self.old ++ table.value ∷ []) }
         ensures unchanged { OnErr result (self.new ≡ self.old) }
         ensures refused { IfErr result (λ fault. fault ≡ Fault.Memory) }
     {
         let end = self.as_slice().len();
-        self.put(end, table)
+        self.put(alloc, end, table)
     }
 
     /// The same tables. (`Memory` alone.)
@@ -152,6 +168,7 @@ impl Tables {
         Ok(Tables {
             listed: handles_copy(alloc, self.listed.as_slice())?,
             by_name: handles_copy(alloc, self.by_name.as_slice())?,
+            indexes: handles_copy(alloc, self.indexes.as_slice())?,
             is_by_name: self.is_by_name,
         })
     }
@@ -163,6 +180,7 @@ impl Tables {
         Ok(Tables {
             listed: other_handles(alloc, self.listed.as_slice(), name)?,
             by_name: other_handles(alloc, self.by_name.as_slice(), name)?,
+            indexes: indexes_of_others(alloc, self.indexes.as_slice(), name)?,
             is_by_name: self.is_by_name,
         })
     }
@@ -171,10 +189,15 @@ impl Tables {
     pub(crate) fn replacing(&self, alloc: Global, new: &Rc<Table>) -> R<Tables>
         ensures { IsOrMemory (λ replaced. replaced ≡ listed.with_replaced new.now.value self.now) result }
     {
+        let is_listed = self.find(new.name.as_str()).is_some();
+        let mut indexes = indexes_of_others(alloc, self.indexes.as_slice(), new.name.as_str())?;
+        let are_new = put_indexes(alloc, &mut indexes, new)?;
         Ok(Tables {
             listed: handles_replaced(alloc, self.listed.as_slice(), new)?,
             by_name: handles_replaced(alloc, self.by_name.as_slice(), new)?,
-            is_by_name: self.is_by_name,
+            indexes,
+            // Where no table has its name, its indexes are of no listed table.
+            is_by_name: self.is_by_name && is_listed && are_new,
         })
     }
 }

@@ -65,13 +65,6 @@ pub(crate) fn view_handle_named<'a>(views: &'a [Rc<View>], name: &str) -> Option
     views.iter().find(|view| view.definition.name.is_same(name))
 }
 
-/// Whether one of the views has a name.
-pub(crate) fn is_view_named(views: &[Rc<View>], name: &str) -> bool
-    ensures { result ≡ list_any (listed.is_shared_view name.now) views.now }
-{
-    views.iter().any(|view| view.definition.name.is_same(name))
-}
-
 /// Whether one of the tables has an index of a name.
 pub(crate) fn is_index_named(tables: &[Rc<Table>], name: &str) -> bool
     ensures { result ≡ list_any (listed.has_index_shared name.now) tables.now }
@@ -133,15 +126,6 @@ pub(crate) fn trigger_handle_named<'a>(
     triggers
         .iter()
         .find(|trigger| trigger.definition.name.is_same(name))
-}
-
-/// Whether one of the triggers has a name.
-pub(crate) fn is_trigger_named(triggers: &[Rc<Trigger>], name: &str) -> bool
-    ensures { result ≡ list_any (listed.is_shared_trigger name.now) triggers.now }
-{
-    triggers
-        .iter()
-        .any(|trigger| trigger.definition.name.is_same(name))
 }
 
 /// Handles to the triggers of other tables and views than that of this name. (`Memory` alone.)

@@ -74,7 +74,7 @@ impl Catalog {
         ensures refused { IfErr result (λ fault. fault ≡ Fault.Memory) }
     {
         let mut tables = self.tables.copy(alloc)?;
-        tables.put(place, Rc::new(alloc, table)?)?;
+        tables.put(alloc, place, Rc::new(alloc, table)?)?;
         self.of_tables(alloc, tables)
     }
 

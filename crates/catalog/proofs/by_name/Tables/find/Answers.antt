@@ -1,6 +1,7 @@
 use Rattle.std.proofs.Common.{◌∙◌, ap, sym, subst, rules}
 use Rattle.std.specs.Prelude.{option_map}
 use Rattle.std.specs.List.{find}
+use Rattle.catalog.specs.ByIndex.{AreIndexesByName}
 use Rattle.catalog.specs.ByName.{AreByName, Rise, in_handles}
 use Rattle.catalog.specs.Listed.{is_table}
 use Rattle.catalog.proofs.Sharing.{found_value, handle_value, shared_found}
@@ -8,7 +9,9 @@ use Rattle.catalog.proofs.by_name.Tables.find.Goals as goal
 
 pub returns-then-self : goal.returns-then-self
 returns-then-self c =
-    let are : AreByName (in_handles c.self.inside.listed.items) (in_handles c.self.inside.by_name.items) = search rules in
+    let both : AreByName (in_handles c.self.inside.listed.items) (in_handles c.self.inside.by_name.items)
+    × AreIndexesByName (in_handles c.self.inside.listed.items) (in_handles c.self.inside.indexes.items) = search rules in
+    let are = both.0 in
     found_value c.found_among.result
     ∙ ap (option_map handle_value) (c.found_among.ensures (subst (λ handles. Rise (in_handles handles)) (sym c.as_slice.ensures.value) are.rise))
     ∙ shared_found (is_table c.args.name.now) c.as_slice.result.now
