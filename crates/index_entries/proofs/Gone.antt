@@ -1,5 +1,5 @@
 -- Entries that go some at a time.
-use Rattle.std.proofs.Common.{◌≡◌, refl, sym, ap, subst, ◌∙◌, ◌+◌, ◌≤◌, ℕ, zero, suc, true, false, List, [], ◌∷◌, ◌++◌, length, map, take, drop, arith, Ok, Err}
+use Rattle.std.proofs.Common.{◌≡◌, refl, sym, ap, subst, ◌∙◌, ◌≤◌, ℕ, zero, suc, List, [], ◌∷◌, ◌++◌, length, map, take, drop, arith, Ok, Err}
 use mathlib.Core.Bool.{true≢false}
 use Rattle.std.specs.Prelude.{Result, IsErrAnd, MatchResult, ⊤}
 use Rattle.sqlval.specs.declared.collation.Collation.{Collation}
@@ -29,7 +29,7 @@ module _ (size root : ℕ) (columns : List Collation) where
   without_parts (suc n) [] entries = refl
   without_parts (suc n) (y ∷ gone) entries = without_parts n gone (without_entry columns y entries)
 
-  long_rest : (n : ℕ) (gone : List Entry) → AreLong columns gone → AreLong columns (drop n gone)
+  pub long_rest : (n : ℕ) (gone : List Entry) → AreLong columns gone → AreLong columns (drop n gone)
   long_rest zero gone long = long
   long_rest (suc n) [] long = tt
   long_rest (suc n) (y ∷ gone) long = long_rest n gone long.1
@@ -75,7 +75,7 @@ module _ (size root : ℕ) (columns : List Collation) where
 -- ---- rows
 
 module _ (columns : Columns) where
-  rows_long : (gone : List Row) → AreLong (collations columns) (map (indexed columns) gone)
+  pub rows_long : (gone : List Row) → AreLong (collations columns) (map (indexed columns) gone)
   rows_long [] = tt
   rows_long (row ∷ gone) = (indexed_long columns row, rows_long gone)
 

@@ -5,6 +5,8 @@ mod Looping
 mod Gone
 mod SameValues
 mod Replacing
+mod Batches
+mod Come
 pub mod Rows
 mod Keys
 mod OtherKeys

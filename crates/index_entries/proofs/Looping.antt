@@ -1,6 +1,5 @@
 -- Rows one after another: what the tree becomes of those that are left decides what it becomes of all.
-use Rattle.std.proofs.Common.{◌≡◌, refl, sym, ap, subst, ◌∙◌, ◌≤◌, ◌<◌, ◌-◌, ℕ, Bool, List, [], ◌∷◌, length, map, take, drop, slice_index_or, IsTrue, Ok, arith}
-use Rattle.std.proofs.lemmas.List.{take_all}
+use Rattle.std.proofs.Common.{◌≡◌, refl, sym, subst, ◌<◌, ℕ, Bool, List, [], ◌∷◌, length, map, IsTrue, Ok, arith}
 use Rattle.std.specs.Prelude.{Result, ⊤}
 use Rattle.sqlval.specs.declared.fault.Fault.{Fault}
 use Rattle.pages.specs.Calls.{Causes, Limits}
@@ -21,16 +20,6 @@ pub since : {P K : Type 0} (below : P → K) (tells : K → Bool) (limits : K �
     → (IsTrue (tells (below mid)) → Does (limits (below mid)).page) → IsTrue (tells (below old)) → Does (limits (below old)).page
 since {P} {K} below tells limits old mid Does kept does told =
     subst (λ (k : K). Does (limits k).page) kept (does (subst (λ (k : K). IsTrue (tells k)) (sym kept) told))
-
--- the first row and the others
-all_taken : (row : TableRow) (rows : List TableRow) → take (length (row ∷ rows) - 1) rows ≡ rows
-all_taken row rows = (let e : length (row ∷ rows) - 1 ≡ length rows = omega arith in ap (λ (n : ℕ). take n rows) e ∙ take_all (length rows) rows (omega arith))
-
-pub first_of : (left : List TableRow) (row : TableRow) → 1 ≤ length left → row ≡ slice_index_or left 0 row
-    → map row_in left ≡ row_in row ∷ map row_in (take (length left - 1) (drop 1 left))
-first_of [] row some is = absurd (omega (arith, some))
-first_of (first ∷ left) row some is =
-    ap (λ (r : TableRow). row_in r ∷ map row_in left) (sym is) ∙ ap (λ (rs : List TableRow). row_in row ∷ map row_in rs) (sym (all_taken first left))
 
 pub none_left : (left : List TableRow) → length left < 1 → map row_in left ≡ []
 none_left [] few = refl

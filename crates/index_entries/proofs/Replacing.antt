@@ -1,5 +1,5 @@
 -- A row in another's place.
-use Rattle.std.proofs.Common.{◌≡◌, refl, sym, ap, subst, ◌∙◌, inl, inr, ℕ, ℤ, append_assoc, Bool, true, false, ◌&&◌, List, [], ◌∷◌, ◌++◌, map, slice_index_or, Ok, Err}
+use Rattle.std.proofs.Common.{◌≡◌, refl, sym, ap, subst, ◌∙◌, inl, ℕ, ℤ, Bool, true, false, ◌&&◌, List, [], ◌∷◌, ◌++◌, map, slice_index_or, Ok, Err}
 use mathlib.Core.Bool.{true≢false}
 use Rattle.std.proofs.lemmas.List.{append-nil}
 use Rattle.std.specs.List.{AllByRecursion, list_all}
@@ -54,7 +54,7 @@ same_listed (column ∷ columns) vs ws =
 -- what the test of two rows' values found
 module _ (columns : List IndexColumn) (left right vs ws : List Value) (left_is : left ≡ vs) (right_is : right ≡ ws) (found : Bool)
     (is : found ≡ list_all (λ column. is_same_value (slice_index_or left column.place Null) (slice_index_or right column.place Null)) columns) where
-  found_is : found ≡ has_same_key (columns_in columns) vs ws
+  pub found_is : found ≡ has_same_key (columns_in columns) vs ws
   found_is = is ∙ same_listed columns left right ∙ ap (λ (v : List Value). has_same_key (columns_in columns) v right) left_is ∙ ap (has_same_key (columns_in columns) vs) right_is
 
   pub keys_same : found ≡ true → has_same_key (columns_in columns) vs ws ≡ true
@@ -119,10 +119,10 @@ module _ (old mid new : PageMap) (size root : ℕ) (columns : Columns) (gone com
 
 -- ---- several rows
 
-head : {m n : ℤ} {ms ns : List ℤ} → m ∷ ms ≡ n ∷ ns → m ≡ n
+pub head : {m n : ℤ} {ms ns : List ℤ} → m ∷ ms ≡ n ∷ ns → m ≡ n
 head e = cc
 
-tail : {m n : ℤ} {ms ns : List ℤ} → m ∷ ms ≡ n ∷ ns → ms ≡ ns
+pub tail : {m n : ℤ} {ms ns : List ℤ} → m ∷ ms ≡ n ∷ ns → ms ≡ ns
 tail e = cc
 
 module _ (size root : ℕ) (columns : Columns) where
@@ -134,35 +134,3 @@ module _ (size root : ℕ) (columns : Columns) where
   -- none comes for one that goes, which can't be
   pub replaces_uneven : (old new : PageMap) (row : Row) (gone : List Row) (result : Result ⊤ Fault) → ReplacesEntries old new size root columns (row ∷ gone) [] result
   replaces_uneven old new row gone result rows apart same = absurd cc
-
-  module _ (old mid : PageMap) (row next : Row) (gone come : List Row) where
-    assoc : (rows more : List Row) → (rows ++ next ∷ []) ++ more ≡ rows ++ next ∷ more
-    assoc rows more = append_assoc rows (next ∷ []) more
-
-    pub replaces_more : (new : PageMap) (result : Result ⊤ Fault) → ReplacesEntry old mid size root columns row next (Ok tt) → ReplacesEntries mid new size root columns gone come result
-        → ReplacesEntries old new size root columns (row ∷ gone) (next ∷ come) result
-    replaces_more new result first more rows apart same =
-        let now = still_apart row next (head same) rows gone apart in
-        let then_so = more (rows ++ next ∷ []) (subst AreApart (sym (assoc rows gone)) now) (tail same) in
-        let from_there = subst (λ (rs : List Row). Turns mid new size root columns rs ((rows ++ next ∷ []) ++ come) (IsAddRefusal columns come) result) (assoc rows gone) then_so in
-        widened result (then_turns old mid new size root columns (rows ++ row ∷ gone) (rows ++ next ∷ gone) (rows ++ next ∷ come) (IsAddRefusal columns (next ∷ [])) (IsAddRefusal columns come) result
-        (first rows gone apart (head same)) (subst (λ (rs : List Row). Turns mid new size root columns (rows ++ next ∷ gone) rs (IsAddRefusal columns come) result) (assoc rows come) from_there))
-      where
-        wider : (f : Fault) → IsAddRefusal columns come f → IsAddRefusal columns (next ∷ come) f
-        wider f (inl outside) = inl outside
-        wider f (inr long) = inr (long.0, λ all. long.1 all.1)
-
-        widened : (result : Result ⊤ Fault) → Turns old new size root columns (rows ++ row ∷ gone) (rows ++ next ∷ come) (IsAddRefusal columns come) result
-            → Turns old new size root columns (rows ++ row ∷ gone) (rows ++ next ∷ come) (IsAddRefusal columns (next ∷ come)) result
-        widened (Ok done) turns = turns
-        widened (Err f) turns = λ used free stands. wider f (turns used free stands)
-
-    pub replaces_stop : (fault : Fault) (result : Result ⊤ Fault) → IsErrAnd result (λ e. e ≡ fault) → ReplacesEntry old mid size root columns row next (Err fault)
-        → ReplacesEntries old mid size root columns (row ∷ gone) (next ∷ come) result
-    replaces_stop fault (Ok done) same first = absurd same
-    replaces_stop fault (Err e) same first = λ rows apart ids used free stands.
-        subst (λ (f : Fault). IsAddRefusal columns (next ∷ come) f) (sym same) (wider (first rows gone apart (head ids) used free stands))
-      where
-        wider : IsAddRefusal columns (next ∷ []) fault → IsAddRefusal columns (next ∷ come) fault
-        wider (inl outside) = inl outside
-        wider (inr long) = inr (long.0, λ all. long.1 (all.0, tt))

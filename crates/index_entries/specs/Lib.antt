@@ -1,6 +1,7 @@
 pub mod Entries
 pub mod Keeping
 pub mod Taking
+pub mod Coming
 pub mod Replacing
 pub mod Laws
 pub mod Alone

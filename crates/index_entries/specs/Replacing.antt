@@ -1,5 +1,5 @@
 -- Rows that take others' places in a table, and their entries in an index (SQL As Understood By SQLite, "UPDATE").
-use Rattle.std.specs.Prelude.{◌≡◌, ℕ, ℤ, Bool, true, List, [], ◌∷◌, ◌++◌, map, slice_index_or, ⊤, Result}
+use Rattle.std.specs.Prelude.{◌≡◌, ℕ, suc, ℤ, Bool, true, List, [], ◌∷◌, ◌++◌, map, slice_index_or, if◌then◌else◌, ⊤, Result}
 use Rattle.std.specs.List.{list_all}
 use Rattle.sqlval.specs.Sameness.{is_same_value}
 use Rattle.sqlval.specs.declared.fault.Fault.{Fault}
@@ -17,6 +17,11 @@ has_same_key columns values others = list_all (λ column. is_same_value (slice_i
 abbrev pub HaveSameKeys : Columns → List Row → List Row → Type 0
 HaveSameKeys columns (row ∷ gone) (next ∷ come) = (has_same_key columns row.1 next.1 ≡ true) × HaveSameKeys columns gone come
 HaveSameKeys columns _ _ = ⊤
+
+-- how many rows from the first on have another key than the one at their place
+abbrev pub changed : Columns → List Row → List Row → ℕ
+changed columns (row ∷ gone) (next ∷ come) = if has_same_key columns row.1 next.1 then 0 else suc (changed columns gone come)
+changed columns _ _ = 0
 
 abbrev pub rowids : List Row → List ℤ
 rowids rows = map (λ row. row.0) rows

@@ -13,7 +13,7 @@ use std::alloc::Global;
 use tree_index::{insert, remove};
 
 /// Of how many rows the entries are in memory at once.
-const BATCH: usize = 256;
+pub(crate) const BATCH: usize = 256;
 
 /// Puts the entry of a row into an index's tree. (What `insert` refuses; `Damaged(Index, root)` if it is there.)
 pub(crate) fn add_entry<P: WritePages>(

@@ -1,6 +1,7 @@
 //! An index is kept equal to its table: the entries of rows that come to the table, of rows that go, and of rows that take others' places.
 #![tactic(auto)]
 
+mod adding;
 mod alone;
 mod columns;
 mod keeping;

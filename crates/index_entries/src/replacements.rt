@@ -1,16 +1,18 @@
 //! Entries of rows that take the places of others.
 
-ghost use Rattle.std.specs.Prelude.{◌≡◌, true, map, slice_index_or, IsTrue, IfErr, Ok};
+ghost use Rattle.std.specs.Prelude.{◌≡◌, true, map, min, slice_index_or, IsTrue, IfErr, Ok};
 ghost use Rattle.std.specs.List.{list_all};
 ghost use Rattle.sqlval.specs.Fields.{value_of};
 ghost use Rattle.sqlval.specs.Sameness.{is_same_value};
 ghost use Rattle.sqlval.specs.declared.value.Value.TheVariants.{Null};
 ghost use Rattle.pages.specs.Calls.{Causes};
-ghost use Rattle.index_entries.specs.Keeping.{columns_in, row_in};
-ghost use Rattle.index_entries.specs.Replacing.{HaveSameKeys, ReplacesEntries, ReplacesEntry, has_same_key};
+ghost use Rattle.index_entries.specs.Keeping.{AddsEntries, columns_in, row_in};
+ghost use Rattle.index_entries.specs.Replacing.{HaveSameKeys, ReplacesEntries, ReplacesEntry, changed, has_same_key};
 
+use crate::adding::add_batch;
 use crate::columns::collations_of;
-use crate::keeping::{add_entry, take_entry};
+use crate::keeping::{BATCH, add_entry, take_entry};
+use crate::taking::take_batch;
 use catalog::{IndexColumn, TableRow};
 use pages::WritePages;
 use sqlval::{Collation, Fault, Field, R, Value};
@@ -112,8 +114,45 @@ pub fn replace_row<P: WritePages>(
     replace_entry(alloc, pages, root, columns, &under, gone, come)
 }
 
-/// Puts the entries of rows in place of those of others, each of which has its row's rowid. Of an entry that stays as it is no page is read. (What
-/// `take_entries` and `add_row` refuse. Then some entries may have changed.)
+/// How many rows from the first on have other values in the indexed columns than those at their places, up to `BATCH`.
+fn count_changed(columns: &[IndexColumn], gone: &[TableRow], come: &[TableRow]) -> usize
+    ensures { result ≡ min 256 (changed (columns_in columns.now) (map row_in gone.now) (map row_in come.now)) }
+{
+    let most = gone.len().min(come.len()).min(BATCH);
+    let mut count = 0;
+    'rows: while count < most && !has_same_key(columns, &gone[count].values, &come[count].values) {
+        count += 1;
+    }
+    count
+}
+
+/// Takes the entries of rows out of an index's tree, and then puts those of others of their rowids into it. (What `take_batch` and `add_batch`
+/// refuse. Then some may be out, or in.)
+fn replace_batch<P: WritePages>(
+    alloc: Global,
+    pages: &mut P,
+    root: u32,
+    columns: &[IndexColumn],
+    under: &[Collation],
+    gone: &[TableRow],
+    come: &[TableRow],
+) -> R<()>
+    requires { under.now ≡ map (λ column. column.collation) columns.now }
+    ensures replaced { IsTrue (P.Pages.tells (P.Pages.below pages.old))
+        → ReplacesEntries (P.Pages.map pages.old) (P.Pages.map pages.new)
+        (P.Pages.limits (P.Pages.below pages.old)).page
+        root (columns_in columns.now) (map row_in gone.now) (map row_in come.now) result }
+    ensures kept { P.Pages.below pages.new ≡ P.Pages.below pages.old }
+    ensures causes { Causes result (P.Pages.failures pages.old) (P.Pages.failures pages.new)
+        (P.Pages.count pages.new ≡ (P.Pages.limits (P.Pages.below pages.new)).most) }
+{
+    take_batch(alloc, pages, root, columns, under, gone)?;
+    add_batch(alloc, pages, root, columns, under, come)
+}
+
+/// Puts the entries of rows in place of those of others, each of which has its row's rowid. Of an entry that stays as it is no page is read; of
+/// those that change up to `BATCH` at a time go, and then those in their places come. (What `take_entries` and `add_row` refuse. Then some
+/// entries may have changed.)
 pub fn replace_entries<P: WritePages>(
     alloc: Global,
     pages: &mut P,
@@ -135,11 +174,14 @@ pub fn replace_entries<P: WritePages>(
     let under = collations_of(alloc, columns)?;
     let mut left = gone;
     let mut next = come;
-    'rows: while let [row, rest @ ..] = left {
-        let [new, others @ ..] = next else {
-            return Ok(());
-        };
-        replace_entry(alloc, pages, root, columns, &under, row, new)?;
+    'rows: while !left.is_empty() && !next.is_empty() {
+        let count = count_changed(columns, left, next);
+        let passed = count.max(1);
+        let (batch, rest) = left.split_at(passed);
+        let (new, others) = next.split_at(passed);
+        if count > 0 {
+            replace_batch(alloc, pages, root, columns, &under, batch, new)?;
+        }
         left = rest;
         next = others;
     }

@@ -14,7 +14,11 @@ use std::alloc::Global;
 use tree_index::remove_run;
 
 /// The entries of rows. (`Memory`.)
-fn entries_for(alloc: Global, columns: &[IndexColumn], rows: &[TableRow]) -> R<Vec<Many<Value>>>
+pub(crate) fn entries_for(
+    alloc: Global,
+    columns: &[IndexColumn],
+    rows: &[TableRow],
+) -> R<Vec<Many<Value>>>
     ensures made { IfOk result (λ entries. entries.items
         ≡ map (λ row. indexed (columns_in columns.now) (row_in row)) rows.now) }
     ensures refused { IfErr result (λ fault. fault ≡ Fault.Memory) }

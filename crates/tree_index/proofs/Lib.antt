@@ -20,6 +20,7 @@ mod Branches
 mod OnLeaves
 mod Leaves
 mod Fans
+mod Within
 mod Widening
 mod Planting
 mod Cutting
@@ -40,6 +41,7 @@ mod OneLess
 mod Going
 mod Whole
 mod RunOff
+mod RunOn
 mod Pairs
 mod Taken
 mod TwoPlans

@@ -2,7 +2,7 @@
 use Rattle.std.proofs.Common.{◌≡◌, ◌≤◌, ◌<◌, ◌+◌, ◌*◌, ℕ, suc, ◌⊎◌, Bool, true, false, List, [], ◌∷◌, ◌++◌, length, map, refl, sym, ap, subst, ◌∙◌, inl, inr, arith}
 use Rattle.std.proofs.lemmas.List.{length-map}
 use Rattle.std.specs.List.{AllByRecursion}
-use Rattle.std.specs.Prelude.{⊤, Result, Ok, Err, IsErrAnd, MatchResult}
+use Rattle.std.specs.Prelude.{⊤, Option, None, Some, is_some, Result, Ok, Err, IsErrAnd, MatchResult, take, zero}
 use Rattle.sqlval.specs.declared.fault.Fault.TheVariants.{Memory, TooLong}
 use Rattle.record.specs.Writing.{AreStorable}
 use Rattle.sqlval.specs.declared.collation.Collation.{Collation}
@@ -28,9 +28,9 @@ use Rattle.tree_store.specs.Sides.{children, each_of}
 use Rattle.tree_store.specs.Staying.{AreKept}
 use Rattle.tree_store.specs.Storing.{CanRoot, IsRewritten, IsLifted, IsRooted, cells_over}
 use Rattle.tree_store.proofs.PutPages.{put_there}
-use Rattle.tree_index.specs.Calls.{Stands, BecomesEntries, IsInsertedBy, IsInsertRefusal}
+use Rattle.tree_index.specs.Calls.{Stands, BecomesEntries, IsFirstInserted, IsFirstThere, IsInsertedBy, IsInsertRefusal, IsRunInserted, IsFirstRefusal}
 use Rattle.sqlval.specs.declared.value.Value.{Value}
-use Rattle.tree_index.specs.Entries.{Entry, AreEntries, has_entry, put_before, with_entry, LeadsTo}
+use Rattle.tree_index.specs.Entries.{Entry, AreEntries, AreLong, ComeInTurn, has_entry, put_before, with_entries, with_entry, LeadsTo}
 use Rattle.tree_index.specs.Flattening.{StoresTop}
 use Rattle.tree_index.specs.Freeing.{all_of, below_of, StandsUnder}
 use Rattle.tree_index.specs.Growing.{IsTop, IsDivider, IsPlanned, IsPut, IsUnder, IsChanged, Changes, entries_in}
@@ -41,6 +41,8 @@ use Rattle.tree_index.proofs.Clearing.{top_and_below}
 use Rattle.tree_index.proofs.Emptied.{large_size, standing, can_stand}
 use Rattle.tree_index.proofs.Growth.{chain, pages_in, moves_top, planned_after, planned_once, number_there, number_unfree}
 use Rattle.tree_index.proofs.Inserts.{still_rise}
+use Rattle.tree_index.proofs.Going.{first_long}
+use Rattle.tree_index.proofs.Within.{all_rise, in_turn}
 use Rattle.tree_index.proofs.Planting.{lone_top, plant, tops_kept, dividers_kept, moved_to, top_moved, entries_moved, pages_moved, lies_moved}
 use Rattle.tree_index.proofs.Clearing.{number_far}
 use Rattle.tree_index.proofs.Shares.{after, beside_used, others_kept, start_after}
@@ -215,15 +217,18 @@ module _ (old : PageMap) (size root : ℕ) (columns : List Collation) (entries :
 
   -- ---- what the calls answer
 
-  module _ (x : List Value) (y : Entry) (leads : LeadsTo columns x y) (payload : List ℕ) (record_is : IsRecord payload y) (long : length y ≡ length columns + 1) where
-    changed : (new : PageMap) (change : Change) → Changes old new size root 19 columns x payload (Ok change) → IsChanged old new size root 19 columns x y depth tree free change
-    changed new change changes = changes y depth tree free root_under record_is
+  module _ (x : List Value) (y : Entry) (rest : List Entry) (leads : LeadsTo columns x y) (payload : List ℕ) (record_is : IsRecord payload y) (long : AreLong columns (y ∷ rest)) where
+    changed : (new : PageMap) (change : Change) → Changes old new size root 19 columns x payload rest (Ok change) → IsChanged old new size root 19 columns x y rest depth tree free change
+    changed new change changes = changes y depth tree free root_under leads record_is long
 
-    pub change_refused : (new : PageMap) (fault : Fault) → Changes old new size root 19 columns x payload (Err fault) → IsOutsideOrFull fault
-    change_refused new fault changes = changes y depth tree free root_under record_is
+    pub change_refused : (new : PageMap) (fault : Fault) → Changes old new size root 19 columns x payload rest (Err fault) → IsOutsideOrFull fault
+    change_refused new fault changes = changes y depth tree free root_under leads record_is long
 
     none : has_entry columns x (entries_of depth tree) ≡ false → has_entry columns x entries ≡ false
     none e = sym (ap (has_entry columns x) is.tree.entries_are) ∙ e
+
+    none_such : has_entry columns x (entries_of depth tree) ≡ false → has_entry columns y entries ≡ false
+    none_such e = (leads entries (none e)).0
 
     -- the key's place is the entry's
     placed : has_entry columns x (entries_of depth tree) ≡ false → put_before columns x y (entries_of depth tree) ≡ with_entry columns y entries
@@ -232,31 +237,69 @@ module _ (old : PageMap) (size root : ℕ) (columns : List Collation) (entries :
     sorted_now : has_entry columns x (entries_of depth tree) ≡ false → AreEntries columns (put_before columns x y (entries_of depth tree))
     sorted_now e =
         let led = leads (entries_of depth tree) e in
-        subst (AreEntries columns) (sym led.1) (still_rise columns y (entries_of depth tree) root_under.sorted led.0 long)
+        subst (AreEntries columns) (sym led.1) (still_rise columns y (entries_of depth tree) root_under.sorted led.0 long.0)
 
-    pub inserted_there : (new : PageMap) → Changes old new size root 19 columns x payload (Ok There) → IsInsertedBy old new size root columns x y entries used free false
+    pub inserted_there : (new : PageMap) → Changes old new size root 19 columns x payload rest (Ok There) → IsFirstInserted old new size root columns x y rest entries used free None
     inserted_there new changes = (let c = changed new There changes in (sym (ap (has_entry columns x) is.tree.entries_are) ∙ c.0, c.1))
 
-    pub inserted_same : (new : PageMap) → Changes old new size root 19 columns x payload (Ok Same) → IsInsertedBy old new size root columns x y entries used free true
-    inserted_same new changes =
-        let c = changed new Same changes in (
+    pub inserted_same : (new : PageMap) (more : ℕ) → Changes old new size root 19 columns x payload rest (Ok (Same more)) → IsFirstInserted old new size root columns x y rest entries used free (Some more)
+    inserted_same new more changes =
+        let c = changed new (Same more) changes in
+        let others = take more rest in
+        let put = put_before columns x y (entries_of depth tree) in
+        let same = placed c.0 in (
+          c.1.0,
           none c.0,
-          subst (λ (es : List Entry). BecomesEntries old new size root columns es used free) (placed c.0)
-              (put_becomes new depth (put_before columns x y (entries_of depth tree)) is.tree.shallow (sorted_now c.0) c.1),
+          (none_such c.0, subst (λ (es : List Entry). ComeInTurn columns others es) same (in_turn columns others put c.1.1)),
+          subst (λ (es : List Entry). BecomesEntries old new size root columns es used free) (ap (with_entries columns others) same)
+              (put_becomes new depth (with_entries columns others put) is.tree.shallow (all_rise columns others put (first_long columns more rest long.1) (sorted_now c.0) c.1.1) c.1.2),
         )
 
-    module _ (mid : PageMap) (packed : Packed) (deep : Bool) (changes : Changes old mid size root 19 columns x payload (Ok (Spread packed deep))) where
-      spread : IsChanged old mid size root 19 columns x y depth tree free (Spread packed deep)
+    module _ (mid : PageMap) (packed : Packed) (deep : Bool) (changes : Changes old mid size root 19 columns x payload rest (Ok (Spread packed deep))) where
+      spread : IsChanged old mid size root 19 columns x y rest depth tree free (Spread packed deep)
       spread = changed mid (Spread packed deep) changes
 
       -- packed pages that are stored as the top
-      pub inserted_spread : (new : PageMap) (result : Result ⊤ Fault) → StoresTop mid new size root packed deep result → MatchResult result (λ done. IsInsertedBy old new size root columns x y entries used free true) IsOutsideOrFull
+      pub inserted_spread : (new : PageMap) (result : Result ⊤ Fault) → StoresTop mid new size root packed deep result
+          → MatchResult result (λ done. IsFirstInserted old new size root columns x y rest entries used free (Some 0)) IsOutsideOrFull
       inserted_spread new result stores = by result (stores old columns entries (put_before columns x y (entries_of depth tree)) used free is (sorted_now spread.0) spread.1 spread.2)
         where
           by : (result : Result ⊤ Fault) → MatchResult result (λ done. BecomesEntries old new size root columns (put_before columns x y (entries_of depth tree)) used free) IsOutsideOrFull
-              → MatchResult result (λ done. IsInsertedBy old new size root columns x y entries used free true) IsOutsideOrFull
-          by (Ok done) now = (none spread.0, subst (λ (es : List Entry). BecomesEntries old new size root columns es used free) (placed spread.0) now)
+              → MatchResult result (λ done. IsFirstInserted old new size root columns x y rest entries used free (Some 0)) IsOutsideOrFull
+          by (Ok done) now = (omega arith, none spread.0, (none_such spread.0, tt), subst (λ (es : List Entry). BecomesEntries old new size root columns es used free) (placed spread.0) now)
           by (Err fault) refused = refused
+
+-- ---- one entry, or several
+
+take_none : (n : ℕ) → take {A = Entry} n [] ≡ []
+take_none zero = refl
+take_none (suc n) = refl
+
+module _ (old new : PageMap) (size root : ℕ) (columns : List Collation) (key : List Value) (y : Entry) (entries : List Entry) (used free : List ℕ) where
+  pub one_inserted : (found : Option ℕ) (done : Bool) → done ≡ is_some found → IsFirstInserted old new size root columns key y [] entries used free found → IsInsertedBy old new size root columns key y entries used free done
+  one_inserted None true is first = absurd cc
+  one_inserted None false is first = first
+  one_inserted (Some more) true is first = (first.1, subst (λ (es : List Entry). BecomesEntries old new size root columns es used free) (ap (λ (rest : List Entry). with_entries columns (y ∷ rest) entries) (take_none more)) first.3)
+  one_inserted (Some more) false is first = absurd cc
+
+module _ (old new : PageMap) (size root : ℕ) (columns : List Collation) (y : Entry) (rest given entries : List Entry) (used free : List ℕ) (whole : given ≡ y ∷ rest) where
+  pub run_inserted : (more count : ℕ) → (more < length given → count ≡ more + 1) → IsFirstInserted old new size root columns y y rest entries used free (Some more)
+      → IsRunInserted old new size root columns given entries used free count
+  run_inserted more count counted first =
+      let lt : more < length given = (let le = first.0 in let all = ap length whole in omega (arith, le, all)) in
+      let count_is : suc more ≡ count = (let c = counted lt in omega (arith, c)) in
+      subst (λ (n : ℕ). IsRunInserted old new size root columns given entries used free n) count_is
+      (subst (λ (them : List Entry). IsRunInserted old new size root columns them entries used free (suc more)) (sym whole) (le_up first.0, first.2, first.3))
+    where
+      le_up : more ≤ length rest → suc more ≤ suc (length rest)
+      le_up le = omega (arith, le)
+
+  pub run_there : IsFirstInserted old new size root columns y y rest entries used free None → IsRunInserted old new size root columns given entries used free 0
+  run_there first = subst (λ (them : List Entry). IsRunInserted old new size root columns them entries used free 0) (sym whole) first
+
+pub none_first_in : (columns : List Collation) (given entries : List Entry) → length given ≡ 0 → IsFirstThere columns given entries
+none_first_in columns [] entries none = tt
+none_first_in columns (x ∷ given) entries none = absurd (omega (arith, none))
 
 -- ---- exits
 
@@ -267,10 +310,15 @@ encode_err I (Ok y) fault x is refused = absurd is
 encode_err I (Err e) fault x is (inl memory) = inl (inl (inl (is ∙ memory)))
 encode_err I (Err e) fault x is (inr large) = inr (is ∙ large.0, large.1)
 
--- what was put by its key
-pub put_or : (I : Bool → Type 0) (result : Result Bool Fault) (x : Entry) → MatchResult result I IsOutsideOrFull → MatchResult result I (IsInsertRefusal x)
-put_or I (Ok b) x put = put
-put_or I (Err fault) x refused = inl refused
+-- what was put by its key was refused, of one entry and of several
+pub put_err : {T : Type 0} (I : T → Type 0) (result : Result T Fault) (fault : Fault) (x : Entry) → IsErrAnd result (λ e. e ≡ fault) → IsOutsideOrFull fault → MatchResult result I (IsInsertRefusal x)
+put_err I (Ok y) fault x is full = absurd is
+put_err I (Err e) fault x is full = inl (subst IsOutsideOrFull (sym is) full)
+
+pub run_err : {T : Type 0} (I : T → Type 0) (result : Result T Fault) (fault : Fault) (x : Entry) (rest given : List Entry) → given ≡ x ∷ rest → IsErrAnd result (λ e. e ≡ fault) → IsOutsideOrFull fault
+    → MatchResult result I (IsFirstRefusal given)
+run_err I (Ok y) fault x rest given whole is full = absurd is
+run_err I (Err e) fault x rest given whole is full = subst (λ (them : List Entry). IsFirstRefusal them e) (sym whole) (inl (subst IsOutsideOrFull (sym is) full))
 
 pub none_left : {A : Type 0} (xs : List A) → length xs ≡ 0 → xs ≡ []
 none_left [] none = refl

@@ -35,7 +35,7 @@ none_of (Some x) none = absurd (none x refl)
 
 -- ---- one change after the other
 
-unmoved : (pages : PageMap) (used free : List ℕ) → Moves pages pages used free used free
+pub unmoved : (pages : PageMap) (used free : List ℕ) → Moves pages pages used free used free
 unmoved pages used free = record {
   longer = omega arith;
   counts = λ n. (let none = fresh_same (length pages) (length pages) n refl in omega (arith, none));

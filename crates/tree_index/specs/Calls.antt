@@ -1,5 +1,5 @@
 -- What calls do with an index's tree: it is a set of entries in rising order.
-use Rattle.std.specs.Prelude.{◌≡◌, ◌⊎◌, ◌≤◌, ◌+◌, ℕ, zero, suc, Bool, true, false, List, [], ◌∷◌, length, take, ⊤, Result, MatchResult}
+use Rattle.std.specs.Prelude.{◌≡◌, ◌⊎◌, ◌≤◌, ◌+◌, ℕ, zero, suc, Bool, true, false, List, [], ◌∷◌, length, take, ⊤, Option, None, Some, Result, MatchResult}
 use Rattle.sqlval.specs.Faults.{IsOutside}
 use Rattle.sqlval.specs.PageSizes.{IsPageSize}
 use Rattle.sqlval.specs.declared.collation.Collation.{Collation}
@@ -12,7 +12,7 @@ use Rattle.pages.specs.Counting.{occurs, Moves}
 use Rattle.pages.specs.Map.{PageMap}
 use Rattle.freelist.specs.Calls.{AreFree, KeepsHeader}
 use Rattle.sqlval.specs.declared.value.Value.{Value}
-use Rattle.tree_index.specs.Entries.{Entry, AreLong, GoInTurn, LeadsTo, has_entry, key_in, with_entry, without_entries, without_entry}
+use Rattle.tree_index.specs.Entries.{Entry, AreLong, ComeInTurn, GoInTurn, LeadsTo, has_entry, key_in, with_entries, with_entry, without_entries, without_entry}
 use Rattle.tree_index.specs.Tree.{IsIndexTree}
 
 -- a tree of these entries, and free pages beside it, none of them in it; page 1 isn't one of its pages
@@ -96,13 +96,20 @@ IsInserted old new size root columns entry = IsInsertedBy old new size root colu
 abbrev pub IsInsertedAlone : PageMap → PageMap → ℕ → ℕ → List Collation → Entry → List Entry → List ℕ → List ℕ → Bool → Type 0
 IsInsertedAlone old new size root columns entry = IsInsertedBy old new size root columns (key_in columns entry) entry
 
--- Where a tree stands, the entry of a payload is put at the place to which the key leads; or memory was short, a disk's call failed, or
--- there are as many pages as there may be.
-abbrev pub PutsEntry : PageMap → PageMap → ℕ → ℕ → List Collation → List Value → List ℕ → Result Bool Fault → Type 0
-PutsEntry old new size root columns key payload result =
+-- the entry was put in, where none equals the key, and so many of the rest, none of which was there in its turn; or one does, and nothing changed
+abbrev pub IsFirstInserted : PageMap → PageMap → ℕ → ℕ → List Collation → List Value → Entry → List Entry → List Entry → List ℕ → List ℕ → Option ℕ → Type 0
+IsFirstInserted old new size root columns key entry rest entries used free None = (has_entry columns key entries ≡ true) × (new ≡ old)
+IsFirstInserted old new size root columns key entry rest entries used free (Some more) =
+    (more ≤ length rest) × (has_entry columns key entries ≡ false) × ComeInTurn columns (entry ∷ take more rest) entries
+    × BecomesEntries old new size root columns (with_entries columns (entry ∷ take more rest) entries) used free
+
+-- Where a tree stands, the entry of a payload is put at the place to which the key leads, and some of the rest with it; or memory was short, a
+-- disk's call failed, or there are as many pages as there may be.
+abbrev pub PutsEntry : PageMap → PageMap → ℕ → ℕ → List Collation → List Value → List ℕ → List Entry → Result (Option ℕ) Fault → Type 0
+PutsEntry old new size root columns key payload rest result =
     (entry : Entry) (entries : List Entry) (used free : List ℕ) → Stands old size root columns entries used free → LeadsTo columns key entry
-    → IsRecord payload entry → length entry ≡ length columns + 1
-    → MatchResult result (IsInsertedBy old new size root columns key entry entries used free) IsOutsideOrFull
+    → IsRecord payload entry → AreLong columns (entry ∷ rest)
+    → MatchResult result (IsFirstInserted old new size root columns key entry rest entries used free) IsOutsideOrFull
 
 -- Where a tree stands, an entry of its columns and a rowid is put into it; or the call is refused.
 abbrev pub InsertsEntry : PageMap → PageMap → ℕ → ℕ → List Collation → Entry → Result Bool Fault → Type 0
@@ -116,6 +123,32 @@ abbrev pub InsertsAlone : PageMap → PageMap → ℕ → ℕ → List Collation
 InsertsAlone old new size root columns entry result =
     (entries : List Entry) (used free : List ℕ) → Stands old size root columns entries used free → length entry ≡ length columns + 1
     → MatchResult result (IsInsertedAlone old new size root columns entry entries used free) (IsInsertRefusal entry)
+
+-- ---- entries that are put in one after the other
+
+-- none is given, or the first is among the entries
+abbrev pub IsFirstThere : List Collation → List Entry → List Entry → Type 0
+IsFirstThere columns [] entries = ⊤
+IsFirstThere columns (first ∷ given) entries = has_entry columns first entries ≡ true
+
+-- so many of the given entries, the first ones, were put in, none of which was there in its turn; or it is none, since there is no first one or it is
+-- there, and nothing changed
+abbrev pub IsRunInserted : PageMap → PageMap → ℕ → ℕ → List Collation → List Entry → List Entry → List ℕ → List ℕ → ℕ → Type 0
+IsRunInserted old new size root columns given entries used free zero = IsFirstThere columns given entries × (new ≡ old)
+IsRunInserted old new size root columns given entries used free (suc more) =
+    (suc more ≤ length given) × ComeInTurn columns (take (suc more) given) entries
+    × BecomesEntries old new size root columns (with_entries columns (take (suc more) given) entries) used free
+
+-- memory was short, a disk's call failed, there are as many pages as there may be, or no record can hold the first of the entries
+abbrev pub IsFirstRefusal : List Entry → Fault → Type 0
+IsFirstRefusal [] fault = ⊥
+IsFirstRefusal (first ∷ given) fault = IsInsertRefusal first fault
+
+-- Where a tree stands, the first of the given entries, each of its columns and a rowid, are put into it; or the call is refused.
+abbrev pub InsertsRun : PageMap → PageMap → ℕ → ℕ → List Collation → List Entry → Result ℕ Fault → Type 0
+InsertsRun old new size root columns given result =
+    (entries : List Entry) (used free : List ℕ) → Stands old size root columns entries used free → AreLong columns given
+    → MatchResult result (IsRunInserted old new size root columns given entries used free) (IsFirstRefusal given)
 
 -- ---- an entry that is taken out
 

@@ -65,6 +65,16 @@ abbrev pub GoInTurn : List Collation → List Entry → List Entry → Type 0
 GoInTurn columns [] entries = ⊤
 GoInTurn columns (gone ∷ more) entries = (has_entry columns gone entries ≡ true) × GoInTurn columns more (without_entry columns gone entries)
 
+-- the entries with these, one after the other
+abbrev pub with_entries : List Collation → List Entry → List Entry → List Entry
+with_entries columns [] entries = entries
+with_entries columns (come ∷ more) entries = with_entries columns more (with_entry columns come entries)
+
+-- none of these is among the entries when its turn comes, after those before it have come
+abbrev pub ComeInTurn : List Collation → List Entry → List Entry → Type 0
+ComeInTurn columns [] entries = ⊤
+ComeInTurn columns (come ∷ more) entries = (has_entry columns come entries ≡ false) × ComeInTurn columns more (with_entry columns come entries)
+
 -- each of these has a value for each column, and a rowid
 abbrev pub AreLong : List Collation → List Entry → Type 0
 AreLong columns entries = AllByRecursion (λ entry. length entry ≡ length columns + 1) entries

@@ -1,8 +1,8 @@
 -- How an entry is put into an index's tree: what becomes of the page at the top of a subtree.
-use Rattle.std.specs.Prelude.{◌≡◌, ◌≤◌, ◌<◌, ◌+◌, ℕ, zero, suc, Bool, true, false, List, [], ◌∷◌, ◌++◌, length, map, slice_index_or, take, drop, ◌^◌, Option, Some, None, Ok, Result, MatchResult}
+use Rattle.std.specs.Prelude.{⊤, ◌≡◌, ◌≤◌, ◌<◌, ◌+◌, ℕ, zero, suc, Bool, true, false, List, [], ◌∷◌, ◌++◌, length, map, slice_index_or, take, drop, ◌^◌, Option, Some, None, Ok, Result, MatchResult}
 use Rattle.std.specs.Global.{Vec}
-use Rattle.std.specs.List.{AllByRecursion}
-use Rattle.std.specs.Ordering.{is_eq}
+use Rattle.std.specs.List.{AllByRecursion, list_any}
+use Rattle.std.specs.Ordering.{is_eq, is_gt, is_lt}
 use Rattle.sqlval.specs.Faults.{IsOutside}
 use Rattle.sqlval.specs.PageSizes.{IsPageSize}
 use Rattle.sqlval.specs.declared.collation.Collation.{Collation}
@@ -24,7 +24,7 @@ use Rattle.tree_store.specs.Sides.{Side, Each, behind, children, each_of}
 use Rattle.tree_store.specs.Storing.{cells_of}
 use Rattle.tree_store.specs.declared.storing.Fan.{Fan}
 use Rattle.tree_index.specs.Comparing.{HasEntries, ComeFirst, child_at, child_of, front_count, is_less}
-use Rattle.tree_index.specs.Entries.{Entry, entry_cmp, AreEntries, has_entry, put_before}
+use Rattle.tree_index.specs.Entries.{Entry, entry_cmp, AreEntries, AreLong, LeadsTo, has_entry, put_before, with_entries, with_entry}
 use Rattle.tree_index.specs.Freeing.{StandsUnder, all_of, below_of}
 use Rattle.tree_index.specs.Tree.{Held, IsHeldAs, IsKidAs, Leaf, Tree, top, entries_of, pages_of, Lies}
 use Rattle.tree_index.specs.declared.growing.Change.{Change}
@@ -152,23 +152,40 @@ pub record IsDeep (ways depth : ℕ) (deep : Bool) : Type 0 where
   pub full : deep ≡ true → ways ≤ depth
   pub short : deep ≡ false → depth < ways
 
+-- one of the entries is less than this one, and one is greater, and none equals it
+abbrev pub StandsWithin : List Collation → Entry → List Entry → Type 0
+StandsWithin columns entry entries =
+    (list_any (λ other. is_gt (entry_cmp columns entry other)) entries ≡ true) × (list_any (λ other. is_lt (entry_cmp columns entry other)) entries ≡ true)
+    × (has_entry columns entry entries ≡ false)
+
+-- each of these stands within the entries when its turn comes, after those before it have come
+abbrev pub ComeWithin : List Collation → List Entry → List Entry → Type 0
+ComeWithin columns [] entries = ⊤
+ComeWithin columns (come ∷ more) entries = StandsWithin columns come entries × ComeWithin columns more (with_entry columns come entries)
+
+-- the tree under a page has these entries now, and so many of the rest, each of which stood within them in its turn
+abbrev pub AreAlsoPut : PageMap → PageMap → ℕ → ℕ → (depth : ℕ) → List Collation → List Entry → List Entry → List ℕ → List ℕ → ℕ → Type 0
+AreAlsoPut old new size number depth columns rest entries used free more =
+    (more ≤ length rest) × ComeWithin columns (take more rest) entries
+    × IsPut old new size number depth (with_entries columns (take more rest) entries) used free
+
 -- what became of a page: an entry that equals the key is there, and nothing changed; or none is, and the tree under the page has the new
--- entry now; or packed pages have to take its place
-abbrev pub IsChanged : PageMap → PageMap → ℕ → ℕ → ℕ → List Collation → List Value → Entry → (depth : ℕ) → Tree depth → List ℕ → Change → Type 0
-IsChanged old new size number ways columns key entry depth t free There = (has_entry columns key (entries_of depth t) ≡ true) × (new ≡ old)
-IsChanged old new size number ways columns key entry depth t free Same =
+-- entry now, and some of the rest; or packed pages have to take its place
+abbrev pub IsChanged : PageMap → PageMap → ℕ → ℕ → ℕ → List Collation → List Value → Entry → List Entry → (depth : ℕ) → Tree depth → List ℕ → Change → Type 0
+IsChanged old new size number ways columns key entry rest depth t free There = (has_entry columns key (entries_of depth t) ≡ true) × (new ≡ old)
+IsChanged old new size number ways columns key entry rest depth t free (Same more) =
     (has_entry columns key (entries_of depth t) ≡ false)
-    × IsPut old new size number depth (put_before columns key entry (entries_of depth t)) (pages_of depth t) free
-IsChanged old new size number ways columns key entry depth t free (Spread packed deep) =
+    × AreAlsoPut old new size number depth columns rest (put_before columns key entry (entries_of depth t)) (pages_of depth t) free more
+IsChanged old new size number ways columns key entry rest depth t free (Spread packed deep) =
     (has_entry columns key (entries_of depth t) ≡ false) × IsDeep ways depth deep
     × IsPlanned old new size depth (put_before columns key entry (entries_of depth t)) (below_of depth t) free packed
 
 -- where a tree stands under a page, this becomes of it; or memory was short, a disk's call failed, or there are as many pages as
 -- there may be
-abbrev pub Changes : PageMap → PageMap → ℕ → ℕ → ℕ → List Collation → List Value → List ℕ → Result Change Fault → Type 0
-Changes old new size number ways columns key payload result = (entry : Entry) (depth : ℕ) (t : Tree depth) (free : List ℕ)
-    → IsUnder old size number ways columns depth t free → IsRecord payload entry
-    → MatchResult result (IsChanged old new size number ways columns key entry depth t free) IsOutsideOrFull
+abbrev pub Changes : PageMap → PageMap → ℕ → ℕ → ℕ → List Collation → List Value → List ℕ → List Entry → Result Change Fault → Type 0
+Changes old new size number ways columns key payload rest result = (entry : Entry) (depth : ℕ) (t : Tree depth) (free : List ℕ)
+    → IsUnder old size number ways columns depth t free → LeadsTo columns key entry → IsRecord payload entry → AreLong columns (entry ∷ rest)
+    → MatchResult result (IsChanged old new size number ways columns key entry rest depth t free) IsOutsideOrFull
 
 -- the entries of a leaf with one more at a place
 abbrev pub entries_put : ℕ → Entry → Leaf → List Entry
@@ -195,7 +212,23 @@ PlansLeaf old new size number place payload result = (entry : Entry) (ways : ℕ
 -- where packed pages have to take the place of a child, this becomes of the page above
 abbrev pub Widens : PageMap → PageMap → ℕ → ℕ → ℕ → ℕ → Packed → Bool → Result Change Fault → Type 0
 Widens mid new size number place child packed deep result =
-    (old : PageMap) (ways : ℕ) (columns : List Collation) (key : List Value) (entry : Entry) (payload : List ℕ) (depth : ℕ) (t : Tree (suc depth)) (free : List ℕ)
-    → IsUnder old size number (suc ways) columns (suc depth) t free → IsRecord payload entry → IsWayTo columns key depth t place child
-    → Changes old mid size child ways columns key payload (Ok (Spread packed deep))
-    → MatchResult result (IsChanged old new size number (suc ways) columns key entry (suc depth) t free) IsOutsideOrFull
+    (old : PageMap) (ways : ℕ) (columns : List Collation) (key : List Value) (entry : Entry) (payload : List ℕ) (rest : List Entry) (depth : ℕ) (t : Tree (suc depth)) (free : List ℕ)
+    → IsUnder old size number (suc ways) columns (suc depth) t free → LeadsTo columns key entry → IsRecord payload entry → AreLong columns (entry ∷ rest)
+    → IsWayTo columns key depth t place child
+    → Changes old mid size child ways columns key payload rest (Ok (Spread packed deep))
+    → MatchResult result (IsChanged old new size number (suc ways) columns key entry rest (suc depth) t free) IsOutsideOrFull
+
+-- what became of a leaf: it has these entries now, and so many of the rest; or packed pages have to take its place
+abbrev pub IsLeafChanged : PageMap → PageMap → ℕ → ℕ → Bool → List Collation → List Entry → List Entry → Leaf → List ℕ → Change → Type 0
+IsLeafChanged old new size number deep columns rest entries t free There = ⊥
+IsLeafChanged old new size number deep columns rest entries t free (Same more) = AreAlsoPut old new size number zero columns rest entries (pages_of zero t) free more
+IsLeafChanged old new size number deep columns rest entries t free (Spread packed is_deep) =
+    (is_deep ≡ deep) × IsPlanned old new size zero entries (below_of zero t) free packed
+
+-- where a tree is a leaf, this becomes of it when an entry is put on it, after so many of its entries, and some of the rest; or memory was short, a
+-- disk's call failed, or there are as many pages as there may be
+abbrev pub PutsOnLeaf : PageMap → PageMap → ℕ → ℕ → ℕ → Bool → List Collation → List ℕ → List Entry → Result Change Fault → Type 0
+PutsOnLeaf old new size number place deep columns payload rest result = (entry : Entry) (ways : ℕ) (t : Leaf) (free : List ℕ)
+    → StandsUnder old size number ways zero t free → IsPageSize size → IsRecord payload entry → place ≤ length t.entries
+    → AreEntries columns (entries_put place entry t) → AreLong columns rest
+    → MatchResult result (IsLeafChanged old new size number deep columns rest (entries_put place entry t) t free) IsOutsideOrFull

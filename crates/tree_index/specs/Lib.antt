@@ -8,6 +8,7 @@ pub mod Growing
 pub mod Joining
 pub mod Removing
 pub mod Taking
+pub mod Coming
 pub mod Flattening
 pub mod Lowering
 pub mod Scanning

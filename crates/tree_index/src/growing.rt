@@ -4,13 +4,14 @@ ghost use Rattle.std.specs.Prelude.{◌≡◌, ℕ, map, IsTrue, IfOk, IfErr};
 ghost use Rattle.sqlval.specs.Faults.{IsNotDiskFault};
 ghost use Rattle.tree_store.specs.Storing.{cells_of};
 ghost use Rattle.pages.specs.Calls.{Causes};
-ghost use Rattle.tree_index.specs.Growing.{Changes, Fans, Parents, PlansLeaf, Widens};
+ghost use Rattle.tree_index.specs.Growing.{Changes, PutsOnLeaf, Fans, Parents, PlansLeaf, Widens};
 
 use crate::cells::most_in;
+use crate::coming::run_on;
 use crate::comparing::Key;
 use crate::placing::{Step, step_from};
 use pages::WritePages;
-use sqlval::{Damage, Fault, R};
+use sqlval::{Damage, Fault, Many, R, Value};
 use std::alloc::Global;
 use tree_overflow::write_payload;
 use tree_pack::{Packed, entry_cell, splice};
@@ -22,8 +23,8 @@ use tree_store::{Fan, place_on, store};
 pub(crate) enum Change {
     /// The entry is there: nothing has changed.
     There,
-    /// The page stays, and below it all is done.
-    Same,
+    /// The page stays, and below it all is done: so many of the entries after the first are there too.
+    Same(usize),
     /// The page gives way to these, which aren't stored yet; and whether no page may stand above it.
     Spread(Packed, bool),
 }
@@ -64,6 +65,32 @@ fn leaf_with<P: WritePages>(
     let cells = [cell.as_slice()];
     let packed = splice(alloc, pages.loaded(), 0, place, 0, &cells, None)?;
     Ok(Some(packed))
+}
+
+/// Puts an entry on a leaf, before the one at a place, and, where the leaf stays, those of the rest that `run_on` puts on it: what becomes of the
+/// leaf.
+fn put_run<P: WritePages>(
+    alloc: Global,
+    pages: &mut P,
+    number: u32,
+    place: usize,
+    deep: bool,
+    new: New<'_>,
+    rest: &[Many<Value>],
+) -> R<Change>
+    ensures changed { IsTrue (P.Pages.tells (P.Pages.below pages.old))
+        → PutsOnLeaf (P.Pages.map pages.old) (P.Pages.map pages.new)
+        (P.Pages.limits (P.Pages.below pages.old)).page number place deep new.entry.key.columns.now
+        new.entry.payload.now rest.now result }
+    ensures kept { P.Pages.below pages.new ≡ P.Pages.below pages.old }
+    ensures causes { Causes result (P.Pages.failures pages.old) (P.Pages.failures pages.new)
+        (P.Pages.count pages.new ≡ (P.Pages.limits (P.Pages.below pages.new)).most) }
+{
+    if let Some(packed) = leaf_with(alloc, pages, number, place, new)? {
+        return Ok(Change::Spread(packed, deep));
+    }
+    let next = place.saturating_add(1);
+    Ok(Change::Same(run_on(alloc, pages, number, next, new.key.columns, rest)?))
 }
 
 /// The cell with this child in place of its own.
@@ -135,50 +162,46 @@ fn widened<P: WritePages>(
 {
     let fan = store(alloc, pages, &[child], packed)?;
     if fan.cells.is_empty() {
-        return Ok(Change::Same);
+        return Ok(Change::Same(0));
     }
     pages.load(number)?;
     let packed = fanned(alloc, pages.loaded(), place, &fan)?;
     Ok(Change::Spread(packed, deep))
 }
 
-/// What becomes of a page into whose tree an entry is put, where as many more pages as `ways` may stand on a way below it. All
-/// pages below it are stored then. (`Damaged(Depth, number)` if a way is longer.)
+/// What becomes of a page into whose tree an entry is put, and with it as many of the rest as are put on the same leaf, where as many more
+/// pages as `ways` may stand on a way below it. All pages below it are stored then. (`Damaged(Depth, number)` if a way is longer.)
 pub(crate) fn packed_below<P: WritePages>(
     alloc: Global,
     pages: &mut P,
     number: u32,
     ways: u32,
     new: New<'_>,
+    rest: &[Many<Value>],
     scratch: &mut Vec<u8>,
 ) -> R<Change>
     ensures changes { IsTrue (P.Pages.tells (P.Pages.below pages.old))
         → Changes (P.Pages.map pages.old) (P.Pages.map pages.new)
         (P.Pages.limits (P.Pages.below pages.old)).page number ways
-        new.entry.key.columns.now new.entry.key.values.now new.entry.payload.now result }
+        new.entry.key.columns.now new.entry.key.values.now new.entry.payload.now rest.now result }
     ensures kept { P.Pages.below pages.new ≡ P.Pages.below pages.old }
     ensures causes { Causes result (P.Pages.failures pages.old) (P.Pages.failures pages.new)
         (P.Pages.count pages.new ≡ (P.Pages.limits (P.Pages.below pages.new)).most) }
 {
     let (place, child) = match step_from(pages, number, new.key, scratch)? {
         Step::Found(_) => return Ok(Change::There),
-        Step::Here(place) => {
-            let Some(packed) = leaf_with(alloc, pages, number, place, new)? else {
-                return Ok(Change::Same);
-            };
-            return Ok(Change::Spread(packed, ways == 0));
-        }
+        Step::Here(place) => return put_run(alloc, pages, number, place, ways == 0, new, rest),
         Step::Down(place, child) => (place, child),
     };
     if ways == 0 {
         return Err(Fault::Damaged(Damage::Depth, number));
     }
-    let change = packed_below(alloc, pages, child, ways - 1, new, scratch)?;
+    let change = packed_below(alloc, pages, child, ways - 1, new, rest, scratch)?;
     match change {
         Change::Spread(packed, deep) => {
             widened(alloc, pages, number, place, child, &packed, deep)
         }
-        Change::Same => Ok(Change::Same),
+        Change::Same(more) => Ok(Change::Same(more)),
         Change::There => Ok(Change::There),
     }
 }

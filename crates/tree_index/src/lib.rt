@@ -3,6 +3,7 @@
 #![tactic(auto)]
 
 mod cells;
+mod coming;
 mod comparing;
 mod filling;
 mod flattening;
@@ -21,7 +22,7 @@ pub use cells::most_in;
 pub use comparing::{Key, compare_entry, compare_records, order};
 pub use filling::fill_tree;
 pub use freeing::{clear, free_tree, new_tree};
-pub use inserting::{insert, insert_alone};
+pub use inserting::{insert, insert_alone, insert_run};
 pub use laws::index_trees_stay;
 pub use removing::{remove, remove_run};
 pub use scanning::Cursor;

@@ -273,7 +273,7 @@ pub fn remove<P: WritePages>(
 }
 
 /// The first, and so many more: at most `most` in all.
-fn with_first(more: usize, most: usize) -> usize
+pub(crate) fn with_first(more: usize, most: usize) -> usize
     ensures counted { more < most → result ≡ more + 1 }
     ensures within { result ≤ most }
 {

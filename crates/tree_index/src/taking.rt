@@ -17,7 +17,7 @@ use tree_store::take_off;
 
 /// The order of a key and the entry at a place of the page of these bytes, of which `most` lie whole in a cell. (None where there is no such
 /// entry, or it goes on in overflow pages.)
-fn whole_order(
+pub(crate) fn whole_order(
     bytes: &[u8],
     number: u32,
     place: usize,
@@ -63,20 +63,54 @@ fn is_beyond(bytes: &[u8], number: u32, last: usize, most: usize, key: Key<'_>) 
     )
 }
 
-/// The place on the page of these bytes that halving finds for a key, unless that stands before the first entry or after the last. (None too
-/// where `place_in` can't tell it.)
-fn place_halved(bytes: &[u8], number: u32, most: usize, key: Key<'_>) -> Option<usize> {
+/// The first place from `low` on, and before `high`, that the key doesn't stand after, on the page of these bytes: sought in leaps that grow, and
+/// then by halving. (None where an entry on the way goes on in overflow pages.)
+pub(crate) fn leap(
+    bytes: &[u8],
+    number: u32,
+    low: usize,
+    high: usize,
+    most: usize,
+    key: Key<'_>,
+) -> Option<usize> {
+    let mut low = low;
+    let mut high = high;
+    let mut step = 3;
+    'leaps: while low < high {
+        let at = low + ((high - low) / 2).min(step);
+        if whole_order(bytes, number, at, most, key)?.is_gt() {
+            low = at + 1;
+            step = step.saturating_mul(2);
+        } else {
+            high = at;
+        }
+    }
+    Some(low)
+}
+
+/// The place on the page of these bytes that is found for a key: in leaps from a place on, or, where the key stands before that, by halving. (None
+/// where it stands before the first entry or after the last.)
+fn place_sought(
+    bytes: &[u8],
+    number: u32,
+    near: usize,
+    most: usize,
+    key: Key<'_>,
+) -> Option<usize> {
     let Ok(len) = len_in(bytes, number) else {
         return None;
     };
     if is_beyond(bytes, number, len.saturating_sub(1), most, key) {
         return None;
     }
-    place_in(bytes, number, most, key, false)?.ok()
+    match whole_order(bytes, number, near, most, key) {
+        Some(Ordering::Greater) => leap(bytes, number, near.saturating_add(1), len, most, key),
+        _ => place_in(bytes, number, most, key, false)?.ok(),
+    }
 }
 
 /// The place of the entry on the page of these bytes that equals the key and lies whole in its cell, as `most` bytes do: sought at a place, at
-/// the one after it, and then by halving. (None where none is found.)
+/// the one after it, and then as `place_sought` does. (None where none is found.)
 fn place_near(bytes: &[u8], number: u32, near: usize, most: usize, key: Key<'_>) -> Option<usize>
     ensures found { IfSome result (λ place. (pages : PageMap) (size : ℕ)
         → bytes.now ≡ page_at pages number → most ≡ index_most size
@@ -89,7 +123,7 @@ fn place_near(bytes: &[u8], number: u32, near: usize, most: usize, key: Key<'_>)
     if is_whole_at(bytes, number, after, most, key) {
         return Some(after);
     }
-    let place = place_halved(bytes, number, most, key)?;
+    let place = place_sought(bytes, number, after, most, key)?;
     if is_whole_at(bytes, number, place, most, key) {
         return Some(place);
     }

@@ -1,4 +1,4 @@
-use Rattle.std.proofs.Common.{refl, sym, ◌∙◌, arith}
+use Rattle.std.proofs.Common.{sym, ◌∙◌, arith}
 use Rattle.tree_index.proofs.Comparisons.{past_keys, past_values, found_other, goes_on}
 use Rattle.tree_index.proofs.comparing.compare_records.Goals as goal
 

@@ -1,4 +1,4 @@
-use Rattle.std.proofs.Common.{◌≡◌, ◌∙◌, ℕ, Bool, false, true, IsTrue, Ok, Err, length, List, [], ◌∷◌, sym, ap, subst}
+use Rattle.std.proofs.Common.{◌≡◌, ◌∙◌, ℕ, Bool, IsTrue, Ok, Err, length, List, [], ◌∷◌, sym, ap, subst}
 use Rattle.std.specs.Prelude.{Result}
 use Rattle.sqlval.specs.declared.fault.Fault.{Fault}
 use Rattle.pages.specs.Map.{PageMap, page_at, IsThere}
@@ -8,7 +8,7 @@ use Rattle.tree_overflow.specs.Calls.{IsWritten}
 use Rattle.tree_pack.specs.Splicing.{Splices}
 use Rattle.tree_store.specs.Storing.{PlacesOn}
 use Rattle.tree_index.specs.Freeing.{below_of}
-use Rattle.tree_index.specs.Growing.{IsPlanned, IsPutOrPlanned, entries_put}
+use Rattle.tree_index.specs.Growing.{IsPutOrPlanned, entries_put}
 use Rattle.tree_index.proofs.Emptied.{large_size}
 use Rattle.tree_index.proofs.Leaves.{payload_held, says_mid, long_mid, leaf_placed, leaf_unplaced, leaf_unwritten, leaf_planned}
 use Rattle.tree_index.proofs.Readings.{full_err, outside_full}

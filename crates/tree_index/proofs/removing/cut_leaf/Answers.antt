@@ -1,6 +1,4 @@
-use Rattle.std.proofs.Common.{◌≡◌, ◌∙◌, ℕ, zero, Bool, true, false, IsTrue, Ok, Err, List, sym, ap, subst}
-use Rattle.std.specs.Prelude.{Result}
-use Rattle.sqlval.specs.declared.fault.Fault.{Fault}
+use Rattle.std.proofs.Common.{◌≡◌, ◌∙◌, zero, Bool, IsTrue, Ok, Err, sym, ap, subst}
 use Rattle.pages.specs.Map.{PageMap, page_at, IsThere}
 use Rattle.tree_store.specs.Storing.{TakesOff}
 use Rattle.tree_index.specs.Freeing.{below_of}
