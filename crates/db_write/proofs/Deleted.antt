@@ -22,7 +22,7 @@ use Rattle.query_terms.specs.Values.{Row}
 use Rattle.row_scan.specs.Rows.{TableRow}
 use Rattle.row_change.specs.Choosing.{chosen, is_chosen, tested}
 use Rattle.row_change.specs.Meaning.{AreEnough}
-use Rattle.row_change.specs.Taking.{AreTakenOut, TakesRows}
+use Rattle.row_change.specs.Taking.{AreTakenOut, IsTakeRefusal, TakesRows, TakesThese}
 use Rattle.row_change.proofs.Taken.{fit_still}
 use Rattle.index_entries.specs.Entries.{AreApart}
 use Rattle.index_entries.specs.Keeping.{row_in}
@@ -109,6 +109,14 @@ module _ (old mid : PageMap) (size : ℕ) (table : Table) (c : Term) where
         by : (rows : List TableRow) → IsRefusedBy (chosen c rows) fault → IsRefusedDelete c rows fault
         by rows (inl memory) = inl (inl (inl memory))
         by rows (inr e) = inr (not_filtered (is_chosen c) (stays c) rows (refusal_of fault) (all_answers (map (tested c) rows)) e)
+
+    -- those that were copied are taken, which are the rows for which the condition is true
+    pub these_taken : (gone : Vec stored.TableRow) (result : Result ⊤ Fault) → MeansRows (Some c) found (Ok gone) → TakesThese old mid size reading (map row_in gone.items) result → TakesRows old mid size reading c found result
+    these_taken gone result means takes rows entries used free is each enough = by result (takes c rows entries used free is each (means rows enough))
+      where
+        by : (r : Result ⊤ Fault) → MatchResult r (λ done. AreTakenOut old mid size reading c rows used free) IsOutsideOrFull → MatchResult r (λ done. AreTakenOut old mid size reading c rows used free) (IsTakeRefusal c rows)
+        by (Ok done) taken = taken
+        by (Err fault) cannot = inl cannot
 
     -- no row is taken
     pub none_taken : (fault : Fault) (result : Result ⊤ Fault) → IsErrAnd result (λ e. e ≡ fault) → TakesRows old mid size reading c found (Err fault) → DeletesInTrees old mid size table (Some c) result

@@ -11,7 +11,7 @@ use crate::reading::{enough_rows, source_of};
 use catalog::{Table, TableRow};
 use pages::WritePages;
 use query_terms::Term;
-use row_change::{meant_rows, take_rows};
+use row_change::{meant_rows, take_rows, take_these};
 use sqlval::R;
 use std::alloc::Global;
 use std::array::from_ref;
@@ -54,7 +54,7 @@ fn take_bare_rows<P: WritePages>(
 }
 
 /// Takes the rows for which a condition is true out of a table's tree, and their entries out of the trees of its indexes. (What
-/// `enough_rows`, `meant_rows`, `take_rows` and `take_entries` refuse.)
+/// `enough_rows`, `meant_rows`, `take_these` and `take_entries` refuse.)
 fn take_indexed_rows<P: WritePages>(
     alloc: Global,
     pages: &mut P,
@@ -73,7 +73,7 @@ fn take_indexed_rows<P: WritePages>(
 {
     let rows = enough_rows(alloc, pages, table, condition)?;
     let gone = meant_rows(alloc, &rows, condition)?;
-    take_rows(alloc, pages, source_of(table), term, &rows)?;
+    take_these(alloc, pages, source_of(table), &gone)?;
     take_from_indexes(alloc, pages, table.indexes.as_slice(), &gone)
 }
 

@@ -4,7 +4,7 @@ use Rattle.std.specs.Prelude.{IsErrAnd, MatchResult, ⊤}
 use Rattle.std.specs.Global.{Vec}
 use Rattle.std.specs.List.{list_all}
 use Rattle.std.specs.Ordering.{int_cmp}
-use Rattle.std.proofs.lemmas.List.{take_all, take_more}
+use Rattle.std.proofs.lemmas.List.{map_more, take_all, take_more}
 use Rattle.sqlval.specs.Lists.{is_rising}
 use Rattle.sqlval.specs.Refusals.{Answer, ◌then◌, refusal_of}
 use Rattle.sqlval.specs.declared.fault.Fault.{Fault}
@@ -13,13 +13,14 @@ use Rattle.tree_leaf.specs.Leaf.{Entry}
 use Rattle.pages.specs.Calls.{IsOutsideOrFull}
 use Rattle.pages.specs.Map.{PageMap}
 use Rattle.tree_page.specs.Cells.{Pairwise}
-use Rattle.tree_table.specs.Calls.{BecomesRows, ChangesRows}
+use Rattle.tree_table.specs.Calls.{BecomesRows, ChangesRows, Stands}
 use Rattle.tree_table.specs.Rows.{without_row, with_change, with_changes}
 use Rattle.tree_table.proofs.Orders.{less_not, same_or_other}
 use Rattle.catalog.specs.Listed.{with_rows}
 use Rattle.catalog.specs.Rows.{are_rows, is_row}
 use Rattle.catalog.specs.declared.tables.RowShape.{RowShape}
 use Rattle.catalog.specs.declared.tables.Table.{Table}
+use Rattle.catalog.specs.declared.tables.TableRow as stored
 use Rattle.query_names.specs.declared.queries.BoundSource.{BoundSource}
 use Rattle.query_terms.specs.Outcome.{IsRefusedBy}
 use Rattle.query_terms.specs.Terms.{Term}
@@ -30,8 +31,9 @@ use Rattle.row_scan.proofs.RowOrder.{both_true}
 use Rattle.row_scan.proofs.TreeOrder.{tree_rises}
 use Rattle.row_change.specs.Choosing.{chosen, is_chosen, rows_left}
 use Rattle.row_change.specs.Meaning.{AreEnough}
+use Rattle.row_change.specs.NewRows.{row_of}
 use Rattle.tree_table.specs.declared.changing.RowChange.{RowChange}
-use Rattle.row_change.specs.Taking.{AreTakenOut, IsTakeRefusal, MakesRows, TakesRows, without_rows}
+use Rattle.row_change.specs.Taking.{AreTakenOut, IsTakeRefusal, MakesRows, TakesRows, TakesThese, without_rows}
 use Rattle.row_change.proofs.Chosen.{chosen_and_left, chosen_refused}
 use Rattle.row_change.proofs.FitRows.{rises_rising}
 use Rattle.row_change.proofs.Rising.{Climbs, Rises, both, fit_rows_rise, further, rows_rise}
@@ -158,19 +160,71 @@ module _ (shape : RowShape) (gone : TableRow → Bool) where
 
 -- ---- what the calls answer
 
+abbrev rowids_of : Answer (List TableRow) → Answer (List ℤ)
+rowids_of rows = rows then λ them. Ok (map (λ row. row.0) them)
+
+-- the rows of the rowids that go are taken out, where these are those of the rows that are chosen
+left_out : (old new : PageMap) (size : ℕ) (table : BoundSource) (condition : Term) (rowids : List ℤ) (result : Result ⊤ Fault) → MakesRows old new size table.root (without_rows rowids) result
+    → (rows : List TableRow) (entries : List Entry) (used free : List ℕ) → Stands old size table.root entries used free → Pairwise (IsRow table.shape) entries rows
+    → rowids_of (chosen condition rows) ≡ Ok rowids → MatchResult result (λ done. AreTakenOut old new size table condition rows used free) IsOutsideOrFull
+left_out old new size table condition rowids result makes rows entries used free is each gone = by result (makes entries used free is)
+  where
+    known : (rowids ≡ rowids_in (filter (is_chosen condition) rows)) × (rows_left condition rows ≡ Ok (filter (λ row. not (is_chosen condition row)) rows))
+    known = chosen_and_left condition rows rowids gone
+
+    rises : Rises rows
+    rises = rows_rise table.shape entries rows (tree_rises old size table.root entries used is.tree) each
+
+    by : (r : Result ⊤ Fault) → MatchResult r (λ done. BecomesRows old new size table.root (without_rows rowids entries) used free) IsOutsideOrFull
+        → MatchResult r (λ done. AreTakenOut old new size table condition rows used free) IsOutsideOrFull
+    by (Ok done) becomes = record {
+      left = filter (λ row. not (is_chosen condition row)) rows;
+      answer = known.1;
+      entries = without_rows rowids entries;
+      becomes = becomes;
+      each = subst (λ (ids : List ℤ). Pairwise (IsRow table.shape) (without_rows ids entries) (filter (λ row. not (is_chosen condition row)) rows)) (sym known.0)
+          (left_are table.shape (is_chosen condition) entries rows each rises);
+    }
+    by (Err fault) cannot = cannot
+
+-- a rowid more
+pub rowid_on : (rows : List stored.TableRow) (i : ℕ) (row : stored.TableRow) (rowids : List ℤ) → i < length rows → row ≡ slice_index_or rows i row → rowids ≡ map (λ row. row.rowid) (take i rows)
+    → rowids ++ row.rowid ∷ [] ≡ map (λ row. row.rowid) (take (i + 1) rows)
+rowid_on rows i row rowids lt is so =
+    ap (λ (ids : List ℤ). ids ++ row.rowid ∷ []) so
+    ∙ (ap (λ (r : stored.TableRow). map (λ row. row.rowid) (take i rows) ++ r.rowid ∷ []) is ∙ sym (map_more (λ row. row.rowid) rows i row lt))
+
+pub rowids_at_end : (rows : List stored.TableRow) (i : ℕ) → length rows ≤ i → map (λ row. row.rowid) (take i rows) ≡ map (λ row. row.rowid) rows
+rowids_at_end rows i le = ap (λ (rs : List stored.TableRow). map (λ row. row.rowid) rs) (take_all i rows le)
+
+-- of rows of a table
+rowids_held : (gone : List stored.TableRow) → map (λ row. row.rowid) gone ≡ rowids_in (map row_of gone)
+rowids_held [] = refl
+rowids_held (row ∷ gone) = ap (λ (ids : List ℤ). row.rowid ∷ ids) (rowids_held gone)
+
+module _ (old new : PageMap) (size : ℕ) where
+  -- no removals are made
+  pub none_made : (root : ℕ) (edit : List Entry → List Entry) (fault : Fault) (result : Result ⊤ Fault) → IsErrAnd result (λ e. e ≡ fault) → fault ≡ Memory → MakesRows old new size root edit result
+  none_made root edit fault (Ok done) same memory = absurd same
+  none_made root edit fault (Err e) same memory = λ rows used free is. inl (inl (same ∙ memory))
+
+  -- no rowids are read
+  pub none_counted : (table : BoundSource) (gone : List TableRow) (fault : Fault) (result : Result ⊤ Fault) → IsErrAnd result (λ e. e ≡ fault) → fault ≡ Memory → TakesThese old new size table gone result
+  none_counted table gone fault (Ok done) same memory = absurd same
+  none_counted table gone fault (Err e) same memory = λ condition rows entries used free is each are. inl (inl (same ∙ memory))
+
+  pub these_taken : (table : BoundSource) (gone : List stored.TableRow) (rowids : List ℤ) (result : Result ⊤ Fault) → rowids ≡ map (λ row. row.rowid) gone
+      → MakesRows old new size table.root (without_rows rowids) result → TakesThese old new size table (map row_of gone) result
+  these_taken table gone rowids result are makes condition rows entries used free is each chosen_are =
+      left_out old new size table condition rowids result makes rows entries used free is each
+      (ap rowids_of chosen_are ∙ ap (λ (ids : List ℤ). Ok ids) (sym (are ∙ rowids_held gone)))
+
 module _ (old new : PageMap) (size : ℕ) (table : BoundSource) (condition : Term) (found : List Row) where
   refused : (fault : Fault) (result : Result ⊤ Fault) → IsErrAnd result (λ e. e ≡ fault)
       → ((rows : List TableRow) → AreEnough (Some condition) found rows → IsTakeRefusal condition rows fault)
       → TakesRows old new size table condition found result
   refused fault (Ok x) same why = absurd same
   refused fault (Err e) same why = λ rows entries used free is each enough. subst (λ (g : Fault). IsTakeRefusal condition rows g) (sym same) (why rows enough)
-
-  pub none_listed : (fault : Fault) (result : Result ⊤ Fault) → IsErrAnd result (λ e. e ≡ fault) → fault ≡ Memory → TakesRows old new size table condition found result
-  none_listed fault result same memory = refused fault result same (λ rows enough. inl (inl (inl memory)))
-
-  -- their rowids, of rows that are chosen
-  abbrev rowids_of : Answer (List TableRow) → Answer (List ℤ)
-  rowids_of rows = rows then λ them. Ok (map (λ row. row.0) them)
 
   pub none_chosen : (fault : Fault) (result : Result ⊤ Fault) → IsErrAnd result (λ e. e ≡ fault)
       → ((some : List TableRow) → found ≡ map as_source some → IsRefusedBy (chosen condition some then λ them. Ok (map (λ row. row.0) them)) fault) → TakesRows old new size table condition found result
@@ -183,22 +237,10 @@ module _ (old new : PageMap) (size : ℕ) (table : BoundSource) (condition : Ter
 
   pub rows_taken : (rowids : List ℤ) (result : Result ⊤ Fault) → ((some : List TableRow) → found ≡ map as_source some → (chosen condition some then λ them. Ok (map (λ row. row.0) them)) ≡ Ok rowids)
       → MakesRows old new size table.root (without_rows rowids) result → TakesRows old new size table condition found result
-  rows_taken rowids result chosen_are makes rows entries used free is each enough = by result (makes entries used free is)
+  rows_taken rowids result chosen_are makes rows entries used free is each enough =
+      by result (left_out old new size table condition rowids result makes rows entries used free is each (ap rowids_of (sym enough.same) ∙ chosen_are enough.some enough.are))
     where
-      known : (rowids ≡ rowids_in (filter (is_chosen condition) rows)) × (rows_left condition rows ≡ Ok (filter (λ row. not (is_chosen condition row)) rows))
-      known = chosen_and_left condition rows rowids (ap rowids_of (sym enough.same) ∙ chosen_are enough.some enough.are)
-
-      rises : Rises rows
-      rises = rows_rise table.shape entries rows (tree_rises old size table.root entries used is.tree) each
-
-      by : (r : Result ⊤ Fault) → MatchResult r (λ done. BecomesRows old new size table.root (without_rows rowids entries) used free) IsOutsideOrFull
+      by : (r : Result ⊤ Fault) → MatchResult r (λ done. AreTakenOut old new size table condition rows used free) IsOutsideOrFull
           → MatchResult r (λ done. AreTakenOut old new size table condition rows used free) (IsTakeRefusal condition rows)
-      by (Ok done) becomes = record {
-        left = filter (λ row. not (is_chosen condition row)) rows;
-        answer = known.1;
-        entries = without_rows rowids entries;
-        becomes = becomes;
-        each = subst (λ (ids : List ℤ). Pairwise (IsRow table.shape) (without_rows ids entries) (filter (λ row. not (is_chosen condition row)) rows)) (sym known.0)
-            (left_are table.shape (is_chosen condition) entries rows each rises);
-      }
+      by (Ok done) taken = taken
       by (Err fault) cannot = inl cannot

@@ -12,7 +12,7 @@ use Rattle.query_names.specs.declared.queries.BoundSource.{BoundSource}
 use Rattle.query_terms.specs.Terms.{Term}
 use Rattle.query_terms.specs.Values.{Row}
 use Rattle.row_scan.specs.Rows.{IsRow, TableRow}
-use Rattle.row_change.specs.Choosing.{rows_left}
+use Rattle.row_change.specs.Choosing.{chosen, rows_left}
 use Rattle.row_change.specs.Meaning.{AreEnough}
 
 -- the rows without those of these rowids
@@ -45,3 +45,10 @@ abbrev pub TakesRows : PageMap → PageMap → ℕ → BoundSource → Term → 
 TakesRows old new size table condition given result = (rows : List TableRow) (entries : List Entry) (used free : List ℕ)
     → Stands old size table.root entries used free → Pairwise (IsRow table.shape) entries rows → AreEnough (Some condition) given rows
     → MatchResult result (λ done. AreTakenOut old new size table condition rows used free) (IsTakeRefusal condition rows)
+
+-- Where a tree has rows of a table, and these are the rows for which a condition is true, they are taken out of the tree; or memory was
+-- short, a disk's call failed, or there are as many pages as there may be.
+abbrev pub TakesThese : PageMap → PageMap → ℕ → BoundSource → List TableRow → Result ⊤ Fault → Type 0
+TakesThese old new size table gone result = (condition : Term) (rows : List TableRow) (entries : List Entry) (used free : List ℕ)
+    → Stands old size table.root entries used free → Pairwise (IsRow table.shape) entries rows → chosen condition rows ≡ Ok gone
+    → MatchResult result (λ done. AreTakenOut old new size table condition rows used free) IsOutsideOrFull

@@ -24,7 +24,7 @@ pub use keeping::{kept_changes, kept_rows_stay_alone, put_changes};
 pub use meaning::{meant_places, meant_rows, row_copy};
 pub use putting::put_new_row;
 pub use setting::{keeps_rowids, stored_row};
-pub use taking::take_rows;
+pub use taking::{take_rows, take_these};
 pub use updating::{set_new_rows, set_row, update_sets_its_rows};
 
 /// Without a UNIQUE index, and where SET leaves the rowids, rows are set as they become.

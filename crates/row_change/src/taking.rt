@@ -1,12 +1,14 @@
 //! Rows that are taken out of the tree of their table.
 
-ghost use Rattle.std.specs.Prelude.{◌≡◌, List, None, IfOk, IfErr, IsTrue};
+ghost use Rattle.std.specs.Prelude.{◌≡◌, List, None, IfOk, IfErr, IsTrue, map};
 ghost use Rattle.tree_leaf.specs.Leaf.{Entry};
 ghost use Rattle.pages.specs.Calls.{Causes};
 ghost use Rattle.tree_table.specs.Rows.{with_changes};
-ghost use Rattle.row_change.specs.Taking.{TakesRows, without_rows};
+ghost use Rattle.row_change.specs.NewRows.{row_of};
+ghost use Rattle.row_change.specs.Taking.{MakesRows, TakesRows, TakesThese, without_rows};
 
 use crate::choosing::chosen_rowids;
+use catalog::TableRow;
 use pages::WritePages;
 use query_names::BoundSource;
 use query_terms::{SourceRow, Term};
@@ -38,6 +40,20 @@ fn removals(alloc: Global, rowids: &[i64]) -> R<Vec<RowChange>>
     Ok(changes)
 }
 
+/// Takes the rows of these rowids out of the tree under a root. (What `change_rows` refuses.)
+fn take_rowids<P: WritePages>(alloc: Global, pages: &mut P, root: u32, rowids: &[i64]) -> R<()>
+    ensures taken { IsTrue (P.Pages.tells (P.Pages.below pages.old))
+        → MakesRows (P.Pages.map pages.old) (P.Pages.map pages.new)
+        (P.Pages.limits (P.Pages.below pages.old)).page
+        root (without_rows rowids.now) result }
+    ensures kept { P.Pages.below pages.new ≡ P.Pages.below pages.old }
+    ensures causes { Causes result (P.Pages.failures pages.old) (P.Pages.failures pages.new)
+        (P.Pages.count pages.new ≡ (P.Pages.limits (P.Pages.below pages.new)).most) }
+{
+    let changes = removals(alloc, rowids)?;
+    change_rows(alloc, pages, root, &changes)
+}
+
 /// Takes the rows for which a condition is true out of a table's tree, of which the rows given are enough for the condition. (What the condition
 /// and `change_rows` refuse; where the condition is refused, no row is taken out.)
 pub fn take_rows<P: WritePages>(
@@ -56,6 +72,43 @@ pub fn take_rows<P: WritePages>(
         (P.Pages.count pages.new ≡ (P.Pages.limits (P.Pages.below pages.new)).most) }
 {
     let rowids = chosen_rowids(alloc, rows, condition)?;
-    let changes = removals(alloc, &rowids)?;
-    change_rows(alloc, pages, table.root, &changes)
+    take_rowids(alloc, pages, table.root, &rowids)
+}
+
+/// The rowid of a row.
+fn rowid_of(row: &TableRow) -> i64
+    ensures { result ≡ row.now.rowid }
+{
+    row.rowid
+}
+
+/// The rowids of these rows. (`Memory`.)
+fn rowids_of(alloc: Global, rows: &[TableRow]) -> R<Vec<i64>>
+    ensures rowids { IfOk result (λ rowids. rowids.items ≡ map (λ row. row.rowid) rows.now) }
+    ensures refused { IfErr result (λ fault. fault ≡ Fault.Memory) }
+{
+    let mut rowids = Vec::with_capacity(alloc, rows.len())?;
+    'rows: for row in rows {
+        rowids.push(rowid_of(row))?;
+    }
+    Ok(rowids)
+}
+
+/// Takes these rows out of a table's tree: those for which a condition is true, where it has been evaluated. (What `change_rows` refuses.)
+pub fn take_these<P: WritePages>(
+    alloc: Global,
+    pages: &mut P,
+    table: BoundSource,
+    gone: &[TableRow],
+) -> R<()>
+    ensures taken { IsTrue (P.Pages.tells (P.Pages.below pages.old))
+        → TakesThese (P.Pages.map pages.old) (P.Pages.map pages.new)
+        (P.Pages.limits (P.Pages.below pages.old)).page
+        table (map row_of gone.now) result }
+    ensures kept { P.Pages.below pages.new ≡ P.Pages.below pages.old }
+    ensures causes { Causes result (P.Pages.failures pages.old) (P.Pages.failures pages.new)
+        (P.Pages.count pages.new ≡ (P.Pages.limits (P.Pages.below pages.new)).most) }
+{
+    let rowids = rowids_of(alloc, gone)?;
+    take_rowids(alloc, pages, table.root, &rowids)
 }
