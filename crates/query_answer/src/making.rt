@@ -21,22 +21,25 @@ use std::alloc::Global;
 use std::marker::Model;
 use std::mem::replace;
 
-/// Rows that a query has made: contracts see them, and not the others, whose memory the next take.
+/// Rows that a query has made, the first of these: contracts see them, and not the others, whose memory the next take.
 #[derive(Drop)]
 struct MadeRows {
     rows: Vec<SourceRow>,
-    others: Vec<SourceRow>,
+    /// How many are made.
+    count: usize,
     /// Values of no row.
     spare: Many<Value>,
 }
 
 impl Model for MadeRows {
-    ghost use Rattle.std.specs.Prelude.{List};
+    ghost use Rattle.std.specs.Prelude.{◌≤◌, List, length, take};
     ghost use Rattle.query_terms.specs.Values.{Row};
 
     ghost Value = { List Row };
 
-    ghost view = { λ made. made.rows.items };
+    ghost view = { λ made. take made.count made.rows.items };
+
+    ghost invariant = { λ made. made.count ≤ length made.rows.items };
 }
 
 impl MadeRows {
@@ -49,32 +52,22 @@ impl MadeRows {
         ensures { result ≡ [] }
     {
         MadeRows {
-            rows: Vec::new(alloc),
-            others: others.into_vec(),
+            rows: others.into_vec(),
+            count: 0,
             spare: Many::new(alloc),
         }
     }
 
-    /// A row of these values, in the memory of another if there is one.
-    fn row_of(&mut self, alloc: Global, values: Many<Value>) -> SourceRow
-        ensures row { result ≡ record { rowid = Null; values = values } }
-        ensures kept { self.new ≡ self.old }
-    {
-        match self.others.pop() {
-            Some(mut row) => {
-                self.spare = row.remake(alloc, Value::Null, values);
-                row
-            }
-            None => SourceRow::made(Value::Null, values),
-        }
-    }
-
-    /// Adds a row of these values. (`Memory`.)
+    /// Adds a row of these values, in the place of another if there is one. (`Memory`.)
     fn add(&mut self, alloc: Global, values: Many<Value>) -> R<()>
         ensures { IsOrMemory (λ done. self.new ≡ self.old ++ record { rowid = Null; values = values } ∷ []) result }
     {
-        let row = self.row_of(alloc, values);
-        self.rows.push(row)?;
+        if self.count < self.rows.len() {
+            self.spare = self.rows[self.count].remake(alloc, Value::Null, values);
+        } else {
+            self.rows.push(SourceRow::made(Value::Null, values))?;
+        }
+        self.count += 1;
         Ok(())
     }
 
@@ -82,7 +75,12 @@ impl MadeRows {
     fn into_rows(self) -> Many<SourceRow>
         ensures { result ≡ self }
     {
-        let MadeRows { rows, .. } = self;
+        let MadeRows {
+            mut rows,
+            count,
+            ..
+        } = self;
+        rows.truncate(count);
         Many::from_vec(rows)
     }
 }
