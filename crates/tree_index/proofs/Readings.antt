@@ -16,7 +16,7 @@ use Rattle.tree_page.specs.Reading.{Place, count_of, type_of}
 use Rattle.tree_page.specs.declared.items.Kind.{Kind}
 use Rattle.tree_page.specs.declared.items.Kind.TheVariants.{TableLeaf, TableInterior, IndexLeaf, IndexInterior}
 use Rattle.tree_store.specs.Saying.{Says}
-use Rattle.tree_index.specs.Comparing.{IsOfIndex, IsBetween, locals_of, child_at, child_of, HasEntries}
+use Rattle.tree_index.specs.Comparing.{IsOfIndex, IsBetween, locals_of, child_at, child_of, HasEntries, IsPageOf, placed}
 use Rattle.tree_index.specs.Tree.{Held, IsHeldAs}
 
 pub ok_is : {X : Type 0} (a b : X) → ◌≡◌ {A = Result X Fault} (Ok a) (Ok b) → a ≡ b
@@ -40,6 +40,20 @@ on_page page bytes start at node is begins it =
 -- what a page says, its bytes say
 pub says_it : (pages : PageMap) (number : ℕ) (bytes : List ℕ) (node : Node) → Says pages number node → bytes ≡ page_at pages number → IsNode bytes (start_of number) node
 says_it pages number bytes node says read = subst (λ (them : List ℕ). IsNode them (start_of number) node) (sym read) says.node_is
+
+-- so do they where they are looked at
+pub on_bytes : (pages : PageMap) (number : ℕ) (page : Place) (node : Node) → Says pages number node → IsPageOf pages number page → IsNode page.bytes page.start node
+on_bytes pages number page node says read =
+    subst (λ (n : ℕ). IsNode page.bytes n node) (sym read.1) (subst (λ (them : List ℕ). IsNode them (start_of number) node) (sym read.0) says.node_is)
+
+-- a page that was opened so is that of the number
+pub opened : (pages : PageMap) (number begins : ℕ) (bytes : List ℕ) (page : Place) → page ≡ record { bytes = bytes; start = begins } → begins ≡ start_of number → bytes ≡ page_at pages number → IsPageOf pages number page
+opened pages number begins bytes page is at read = (ap (λ (p : Place). p.bytes) is ∙ read, ap (λ (p : Place). p.start) is ∙ at)
+
+-- a refusal that is none of a page has no number
+pub placed_outside : (number : ℕ) (fault : Fault) → IsOutside fault → IsOutside (placed number fault)
+placed_outside number fault (inl memory) = inl (ap (placed number) memory)
+placed_outside number fault (inr io) = inr (ap (placed number) io)
 
 -- a page of an index is of no other kind
 pub not_of_table : (node : Node) (kind : Kind) → IsOfIndex node → type_of kind ≡ code_of node → (kind ≡ TableLeaf) ⊎ (kind ≡ TableInterior) → ⊥

@@ -8,9 +8,11 @@ use Rattle.sqlval.specs.declared.collation.Collation.TheVariants.{Binary}
 use Rattle.sqlval.specs.declared.fault.Fault.{Fault}
 use Rattle.sqlval.specs.declared.fault.Fault.TheVariants.{Damaged}
 use Rattle.sqlval.specs.declared.value.Value.{Value}
-use Rattle.pages.specs.Map.{PageMap, AreWhole}
+use Rattle.pages.specs.Counting.{start_of}
+use Rattle.pages.specs.Map.{PageMap, AreWhole, page_at}
 use Rattle.tree_page.specs.Cells.{Pairwise}
 use Rattle.tree_page.specs.Node.{Local, Node, Rows, Keys, Entries, Between}
+use Rattle.tree_page.specs.Reading.{Place}
 use Rattle.tree_store.specs.Saying.{Says}
 use Rattle.tree_index.specs.Entries.{entry_cmp, is_passed}
 use Rattle.tree_index.specs.Tree.{Held, IsHeldAs}
@@ -55,6 +57,10 @@ child_of place (Rows rows) = None
 child_of place (Keys kids last) = None
 child_of place (Entries entries) = None
 child_of place (Between kids last) = Some (child_at place kids last)
+
+-- these are the bytes of the page of this number, and where the tree's part of them begins
+abbrev pub IsPageOf : PageMap → ℕ → Place → Type 0
+IsPageOf pages number page = (page.bytes ≡ page_at pages number) × (page.start ≡ start_of number)
 
 -- The page of this number says these entries, on a leaf or between children.
 pub record HasEntries (map : PageMap) (size number : ℕ) (node : Node) (entries : List Held) : Type 0 where

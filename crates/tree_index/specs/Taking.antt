@@ -1,6 +1,7 @@
 -- Entries that are taken off a leaf in place, one after the other.
-use Rattle.std.specs.Prelude.{◌≡◌, ◌+◌, ◌<◌, ℕ, zero, true, List, [], length, slice_index_or, Option, None, Some, Result, MatchResult}
+use Rattle.std.specs.Prelude.{◌≡◌, ◌+◌, ◌-◌, ◌<◌, ℕ, zero, true, List, [], length, slice_index_or, Option, None, Some, Result, MatchResult}
 use Rattle.std.specs.declared.cmp.Ordering.{Ordering}
+use Rattle.std.specs.declared.cmp.Ordering.TheVariants.{Greater, Less}
 use Rattle.sqlval.specs.Faults.{IsOutside}
 use Rattle.sqlval.specs.PageSizes.{IsPageSize}
 use Rattle.sqlval.specs.declared.collation.Collation.{Collation}
@@ -15,6 +16,8 @@ use Rattle.tree_index.specs.Growing.{IsEqualAt, IsPut}
 use Rattle.tree_index.specs.Removing.{IsTakenOut}
 use Rattle.tree_index.specs.Tree.{Held, Leaf, entries_of, pages_of}
 use Rattle.tree_index.specs.declared.removing.Loss.TheVariants.{Done}
+use Rattle.tree_index.specs.declared.taking.Landing.{Landing}
+use Rattle.tree_index.specs.declared.taking.Landing.TheVariants.{There, Gap}
 
 -- a key compares so with the entry at a place of a page, which goes on in no overflow pages
 abbrev pub ComparesWhole : PageMap → ℕ → ℕ → ℕ → List Collation → List Value → Ordering → Type 0
@@ -28,6 +31,14 @@ abbrev pub IsWholeAt : PageMap → ℕ → ℕ → List Collation → List Value
 IsWholeAt pages size number columns key place =
     (node : Node) (entries : List Held) → AreWhole size pages → HasEntries pages size number node entries
     → IsEqualAt columns key entries place × ((d : Held) → (slice_index_or entries place d).pages ≡ [])
+
+-- leaps came to an entry that equals the key, whole in its cell; or to a place, before whose entry the key stands, and after the one before it, where
+-- that is known
+abbrev pub Leaps : PageMap → ℕ → ℕ → List Collation → List Value → Landing → Type 0
+Leaps pages size number columns key (There place) = IsWholeAt pages size number columns key place
+Leaps pages size number columns key (Gap place is_after is_before) =
+    (is_after ≡ true → (0 < place) × ComparesWhole pages size number (place - 1) columns key Greater)
+    × (is_before ≡ true → ComparesWhole pages size number place columns key Less)
 
 -- the entry was on the leaf and is off it now; or nothing changed
 abbrev pub IsNextTaken : PageMap → PageMap → ℕ → ℕ → List Collation → Entry → Leaf → List ℕ → Option ℕ → Type 0

@@ -39,8 +39,21 @@ pub fn most_in(page_size: usize) -> usize
     (room / 255 * 64 + room % 255 * 64 / 255).saturating_sub(23)
 }
 
-/// What the cell at a place has of its entry, on a page of these bytes. (`Damaged` for one that is no page of an index, or has no such
-/// cell.)
+/// What the cell at a place has of its entry, on this page. (`Damaged` for one that is no page of an index, or has no such cell.)
+pub(crate) fn local_on<'a>(page: &TreePage<'a>, place: usize) -> R<Local<'a>>
+    ensures only { (node : Node) (d : LocalIs) → IsNode page.now.bytes page.now.start node
+        → IsOfIndex node
+        → place < length (locals_of node) → Answers local_of result (slice_index_or (locals_of node) place d) }
+    ensures not_disk { IfErr result IsNotDiskFault }
+{
+    match page.kind() {
+        Kind::IndexLeaf => page.entry(place),
+        Kind::IndexInterior => Ok(page.between(place)?.entry),
+        Kind::TableLeaf | Kind::TableInterior => Err(Fault::Damaged(Damage::Page, 0)),
+    }
+}
+
+/// The same of a page of these bytes. (And `Damaged` for one that is no page of a tree.)
 pub(crate) fn local_in(bytes: &[u8], number: u32, place: usize) -> R<Local<'_>>
     ensures only { (node : Node) (d : LocalIs) → IsNode bytes.now (counting.start_of number) node
         → IsOfIndex node
@@ -48,11 +61,7 @@ pub(crate) fn local_in(bytes: &[u8], number: u32, place: usize) -> R<Local<'_>>
     ensures not_disk { IfErr result IsNotDiskFault }
 {
     let page = TreePage::over(bytes, start_of(number))?;
-    match page.kind() {
-        Kind::IndexLeaf => page.entry(place),
-        Kind::IndexInterior => Ok(page.between(place)?.entry),
-        Kind::TableLeaf | Kind::TableInterior => Err(Fault::Damaged(Damage::Page, 0)),
-    }
+    local_on(&page, place)
 }
 
 /// How many cells the page of these bytes has. (`Damaged` for one that is no page of a tree.)

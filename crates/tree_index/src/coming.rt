@@ -8,7 +8,7 @@ ghost use Rattle.tree_index.specs.Coming.{IsBetweenAt, IsWholeCell, PutsNext, Ru
 
 use crate::cells::{len_in, most_in};
 use crate::comparing::Key;
-use crate::taking::{leap, whole_order};
+use crate::taking::{FIRST_LEAP, Landing, leap, whole_order};
 use pages::WritePages;
 use record::encode_row;
 use sqlval::{Collation, Fault, Many, R, Value};
@@ -49,11 +49,42 @@ fn gap_from(bytes: &[u8], number: u32, near: usize, most: usize, key: Key<'_>) -
     let Some(Ordering::Less) = whole_order(bytes, number, len.saturating_sub(1), most, key) else {
         return None;
     };
-    let place = leap(bytes, number, near, len, most, key)?;
+    if near > len {
+        return None;
+    }
+    let Landing::Gap(place, is_after, is_before) = leap(
+        bytes, number, near, len, FIRST_LEAP, most, key,
+    )?
+    else {
+        return None;
+    };
+    if is_after && is_before {
+        return Some(place);
+    }
     if is_between(bytes, number, place, most, key) {
         return Some(place);
     }
     None
+}
+
+/// The same, sought first at a place so far ahead, and then as `gap_from` does.
+fn gap_ahead(
+    bytes: &[u8],
+    number: u32,
+    near: usize,
+    ahead: usize,
+    most: usize,
+    key: Key<'_>,
+) -> Option<usize>
+    ensures found { IfSome result (λ place. (pages : PageMap) (size : ℕ)
+        → bytes.now ≡ page_at pages number → most ≡ index_most size
+        → IsBetweenAt pages size number key.entry.columns.now key.entry.values.now place) }
+{
+    let at = near.saturating_add(ahead);
+    if is_between(bytes, number, at, most, key) {
+        return Some(at);
+    }
+    gap_from(bytes, number, near, most, key)
 }
 
 /// The cell of an entry that lies whole in it, as `most` bytes do. (None for a longer one, and for one that no record can hold.)
@@ -72,13 +103,14 @@ fn whole_cell(alloc: Global, most: usize, entry: &[Value]) -> R<Option<Vec<u8>>>
     Ok(Some(cell))
 }
 
-/// Puts the entry of a key on a leaf in place, where it comes between two others: sought as `gap_from` does. Answers where. (None where it doesn't
+/// Puts the entry of a key on a leaf in place, where it comes between two others: sought as `gap_ahead` does. Answers where. (None where it doesn't
 /// come so, or the page has no room for it: nothing has changed then. `Memory`; what `load` and `place_on` refuse.)
 fn next_on<P: WritePages>(
     alloc: Global,
     pages: &mut P,
     number: u32,
     near: usize,
+    ahead: usize,
     key: Key<'_>,
 ) -> R<Option<usize>>
     ensures put { IsTrue (P.Pages.tells (P.Pages.below pages.old))
@@ -90,7 +122,7 @@ fn next_on<P: WritePages>(
 {
     pages.load(number)?;
     let most = most_in(pages.page_size());
-    let Some(place) = gap_from(pages.loaded(), number, near, most, key) else {
+    let Some(place) = gap_ahead(pages.loaded(), number, near, ahead, most, key) else {
         return Ok(None);
     };
     let Some(cell) = whole_cell(alloc, most, key.values)? else {
@@ -103,7 +135,7 @@ fn next_on<P: WritePages>(
 }
 
 /// Puts entries on a leaf in place, in their order, up to the first that doesn't come between two others or has no room: how many. The first is sought
-/// from a place on, each other one from the place after the one before. (What `next_on` refuses.)
+/// from a place on, each other one as far after the one before as that was after its own, and then from there on. (What `next_on` refuses.)
 pub(crate) fn run_on<P: WritePages>(
     alloc: Global,
     pages: &mut P,
@@ -119,13 +151,15 @@ pub(crate) fn run_on<P: WritePages>(
     ensures causes { Causes result (P.Pages.failures pages.old) (P.Pages.failures pages.new) ⊥ }
 {
     let mut near = place;
+    let mut ahead = 0;
     let mut put = 0;
     'run: while put < entries.len() {
         let values = entries[put].as_slice();
         let key = Key { columns, values };
-        let Some(found) = next_on(alloc, pages, number, near, key)? else {
+        let Some(found) = next_on(alloc, pages, number, near, ahead, key)? else {
             return Ok(put);
         };
+        ahead = found.saturating_sub(near);
         near = found.saturating_add(1);
         put += 1;
     }

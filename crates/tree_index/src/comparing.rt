@@ -6,19 +6,20 @@ ghost use Rattle.sqlval.specs.Fields.{value_of};
 ghost use Rattle.sqlval.specs.Order.{order as value_order};
 ghost use Rattle.sqlval.specs.declared.value.Value.{Value as ValueIs};
 ghost use Rattle.pages.specs.Calls.{Stays};
-ghost use Rattle.pages.specs.Map.{PageMap, page_at};
+ghost use Rattle.pages.specs.Map.{PageMap};
 ghost use Rattle.record.specs.Reading.{columns_at};
 ghost use Rattle.record.specs.Record.{IsRecord};
 ghost use Rattle.tree_page.specs.Payload.{index_most};
-ghost use Rattle.tree_index.specs.Comparing.{ComparesEntry, LiesWhole, collation_for};
+ghost use Rattle.tree_index.specs.Comparing.{ComparesEntry, IsPageOf, LiesWhole, collation_for};
 ghost use Rattle.tree_index.specs.Entries.{entry_cmp};
 
-use crate::cells::{at_page, local_in, most_in};
+use crate::cells::{at_page, local_in, local_on, most_in};
 use pages::Pages;
 use record::{Record, halves_of, read_field, records_are_read};
 use sqlval::{Collation, Field, R, Value, compare_fields};
 use std::cmp::Ordering;
 use tree_overflow::read_payload;
+use tree_page::TreePage;
 
 /// What is sought in an index: the values of an entry, or its first ones, in the order of the columns, the rowid last.
 #[derive(Clone, Copy)]
@@ -116,26 +117,25 @@ fn compare_payload(key: Key<'_>, payload: &[u8]) -> Ordering
     }
 }
 
-/// The order of a key and the entry at a place of the page of these bytes, of which `most` lie whole in a cell; None if its payload goes on in
-/// overflow pages. (As `order` refuses it.)
-pub(crate) fn order_in(
-    bytes: &[u8],
-    number: u32,
+/// The order of a key and the entry at a place of this page, of which `most` bytes lie whole in a cell; None if its payload goes on in overflow
+/// pages. (`Damaged` for a page that is none of an index, or has no such entry.)
+pub(crate) fn order_on(
+    page: &TreePage<'_>,
     place: usize,
     most: usize,
     key: Key<'_>,
 ) -> Option<R<Ordering>>
-    ensures found { IfSome result (λ found. (pages : PageMap) (size : ℕ)
-        → bytes.now ≡ page_at pages number → most ≡ index_most size
+    ensures found { IfSome result (λ found. (pages : PageMap) (size number : ℕ)
+        → IsPageOf pages number page.now → most ≡ index_most size
         → ComparesEntry pages size number place key.entry.columns.now key.entry.values.now found) }
-    ensures whole { IfSome result (λ found. (pages : PageMap) (size : ℕ)
-        → bytes.now ≡ page_at pages number → most ≡ index_most size
+    ensures whole { IfSome result (λ found. (pages : PageMap) (size number : ℕ)
+        → IsPageOf pages number page.now → most ≡ index_most size
         → LiesWhole pages size number place) }
     ensures not_disk { IfSome result (λ found. IfErr found IsNotDiskFault) }
 {
-    let local = match local_in(bytes, number, place) {
+    let local = match local_on(page, place) {
         Ok(local) => local,
-        Err(fault) => return Some(Err(at_page(fault, number))),
+        Err(fault) => return Some(Err(fault)),
     };
     if local.size > most as u64 {
         return None;

@@ -9,11 +9,12 @@ ghost use Rattle.tree_index.specs.Comparing.{FindsPlace};
 ghost use Rattle.tree_index.specs.Entries.{is_passed};
 ghost use Rattle.tree_index.specs.Growing.{FindsEqual, StepsFrom};
 
-use crate::cells::{at_page, child_of, len_in, len_of, most_in};
-use crate::comparing::{Key, order, order_in};
+use crate::cells::{at_page, child_of, len_of, most_in, start_of};
+use crate::comparing::{Key, order, order_on};
 use pages::Pages;
 use sqlval::R;
 use std::cmp::Ordering;
+use tree_page::TreePage;
 
 /// Where the way to an entry goes on from a page.
 #[derive(Clone, Copy, Drop)]
@@ -34,7 +35,7 @@ fn is_past(order: Ordering, after: bool) -> bool
 }
 
 /// The first place on the page of these bytes, found as `place_of` does; None if the payload of an entry that is compared goes on in overflow
-/// pages. (As `len_of` and `order_in` refuse it.)
+/// pages. (As `len_of` and `order_on` refuse it.)
 pub(crate) fn place_in(
     bytes: &[u8],
     number: u32,
@@ -47,16 +48,17 @@ pub(crate) fn place_in(
         → FindsPlace pages size number after key.entry.columns.now key.entry.values.now found) }
     ensures not_disk { IfSome result (λ found. IfErr found IsNotDiskFault) }
 {
-    let mut low = 0;
-    let mut high = match len_in(bytes, number) {
-        Ok(len) => len,
+    let page = match TreePage::over(bytes, start_of(number)) {
+        Ok(page) => page,
         Err(fault) => return Some(Err(at_page(fault, number))),
     };
+    let mut low = 0;
+    let mut high = page.len();
     'halves: while low < high {
         let middle = low + (high - low) / 2;
-        let order = match order_in(bytes, number, middle, most, key)? {
+        let order = match order_on(&page, middle, most, key)? {
             Ok(order) => order,
-            Err(fault) => return Some(Err(fault)),
+            Err(fault) => return Some(Err(at_page(fault, number))),
         };
         if is_past(order, after) {
             low = middle + 1;
