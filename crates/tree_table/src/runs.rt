@@ -9,7 +9,7 @@ ghost use Rattle.tree_table.specs.Runs.{AppendsRow, ChangesBelow, ChangesLeaf, E
 ghost use Rattle.tree_table.specs.Stepping.{HasRowid};
 
 use crate::changing::RowChange;
-use crate::descending::{Step, look, step_from};
+use crate::descending::{Step, step_from};
 use crate::freeing::free_row;
 use crate::growing::{Change, leaf_with};
 use crate::joining::narrowed;
@@ -33,7 +33,8 @@ fn room_for(change: &RowChange, size: usize) -> usize
     }
 }
 
-/// The place after this one on a leaf of these bytes, if the row there has this rowid. (`Damaged` for another page.)
+/// The place after this one on a leaf of these bytes whose row has this rowid: sought from there on in leaps that grow, and then by halving. (None
+/// where none is found; `Damaged` for another page.)
 fn place_after(bytes: &[u8], start: usize, last: usize, rowid: i64) -> R<Option<usize>>
     ensures found { (said : List (ℤ × Local)) → IsNode bytes.now start (Rows said)
         → MatchResult result (λ found. MatchOption found ⊤ (λ place. (last < place)
@@ -41,9 +42,21 @@ fn place_after(bytes: &[u8], start: usize, last: usize, rowid: i64) -> R<Option<
     ensures not_disk { IfErr result IsNotDiskFault }
 {
     let page = TreePage::over(bytes, start)?;
-    let place = last.saturating_add(1);
-    if place < page.len() && page.row(place)?.rowid == rowid {
-        return Ok(Some(place));
+    let mut low = last;
+    let mut high = page.len();
+    let mut step = 0;
+    'leaps: while low.saturating_add(1) < high {
+        let at = low + 1 + ((high - low - 2) / 2).min(step);
+        let found = page.row(at)?.rowid;
+        if found == rowid {
+            return Ok(Some(at));
+        }
+        if found < rowid {
+            low = at;
+            step = step.saturating_mul(2).saturating_add(1);
+        } else {
+            high = at;
+        }
     }
     Ok(None)
 }
@@ -63,18 +76,7 @@ fn next_place(
     if room < room_for(change, bytes.len()) {
         return Ok(None);
     }
-    if let Some(place) = place_after(bytes, start, last, change.rowid)? {
-        return Ok(Some(place));
-    }
-    match look(bytes, start, change.rowid)? {
-        Step::Found(place) => {
-            if last < place {
-                return Ok(Some(place));
-            }
-            Ok(None)
-        }
-        _ => Ok(None),
-    }
+    place_after(bytes, start, last, change.rowid)
 }
 
 /// The places on a leaf of these bytes of the rows of the first changes: of the first one, and of those after it as long as their rows stand
