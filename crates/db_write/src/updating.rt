@@ -21,8 +21,8 @@ use catalog::{Index, Table, TableRow};
 use pages::WritePages;
 use query_terms::{SourceRow, Term};
 use row_change::{
-    keeps_rowids, kept_changes, kept_rows_stay_alone, meant_places, meant_rows, put_changes,
-    row_copy, rows_without_keys_are_free, set_new_rows, set_row,
+    copies_at, keeps_rowids, kept_changes, kept_rows_stay_alone, meant_places, meant_rows,
+    put_changes, row_copy, rows_without_keys_are_free, set_new_rows, set_row, set_rows_at,
 };
 use sqlval::{Many, R};
 use std::alloc::Global;
@@ -55,7 +55,7 @@ fn set_bare_rows<P: WritePages>(
 }
 
 /// Sets values in the rows of a table without a UNIQUE index, where SET leaves the rowids, and puts the entries that they have then in place of
-/// those that they had in the trees of its indexes, one index after another. (What `meant_rows`, `set_new_rows` and `replace_entries` refuse.)
+/// those that they had in the trees of its indexes, one index after another. (What `meant_places`, `set_rows_at` and `replace_entries` refuse.)
 fn set_indexed_rows<P: WritePages>(
     alloc: Global,
     pages: &mut P,
@@ -77,8 +77,9 @@ fn set_indexed_rows<P: WritePages>(
         (P.Pages.count pages.new ≡ (P.Pages.limits (P.Pages.below pages.new)).most) }
 {
     rows_without_keys_are_free();
-    let gone = meant_rows(alloc, rows, condition)?;
-    let new = set_new_rows(alloc, pages, table, condition, sets, rows)?;
+    let places = meant_places(alloc, rows, condition)?;
+    let gone = copies_at(alloc, rows, &places)?;
+    let new = set_rows_at(alloc, pages, table, sets, rows, &places)?;
     replace_in_indexes(alloc, pages, table.indexes.as_slice(), &gone, &new)
 }
 

@@ -26,4 +26,4 @@ pub mod KeptRows
 mod SetRows
 pub mod Replaced
 pub mod SetTrees
-mod Meant
+pub mod Meant

@@ -18,7 +18,7 @@ use Rattle.query_terms.specs.Rows.{row_at}
 use Rattle.query_terms.specs.Terms.{Term}
 use Rattle.query_terms.specs.Values.{Environment, Row}
 use Rattle.query_terms.proofs.InOrder.{with_front}
-use Rattle.query_terms.proofs.Quiet.{IsQuiet, each, memory_is_quiet, next, of_converted, quiet_fault}
+use Rattle.query_terms.proofs.Quiet.{IsQuiet, memory_is_quiet, next, of_converted, quiet_fault}
 use Rattle.query_names.proofs.QuietValues.{of_holds, of_values}
 use Rattle.row_scan.specs.Rows.{TableRow}
 use Rattle.row_change.specs.Constraints.{set_values, with_affinity}
@@ -84,14 +84,12 @@ pub map_twice : {A B C : Type 0} (g : B → C) (f : A → B) (xs : List A) → m
 map_twice g f [] = refl
 map_twice g f (x ∷ xs) = ap (λ ys. g (f x) ∷ ys) (map_twice g f xs)
 
-pub all_changed : {X : Type 0} (view : X → List TableRow) (table : Table) (sets : List (ℕ × Term)) (c : Option Term) (rows : List Row) (places seen : List ℕ) (result : Result X Fault) → rows_meant c [] rows ≡ Ok (map (row_at rows) places) → seen ≡ places
-    → AnswersBy view (all_answers (map (λ place. source_set table sets (row_at rows place)) seen)) result → AnswersBy view (rows_changed table sets c rows) result
-all_changed view table sets c rows places seen result meant same answers =
-    subst (λ (a : Answer (List TableRow)). AnswersBy view a result)
-    (ap (λ (ps : List ℕ). all_answers (map (λ place. source_set table sets (row_at rows place)) ps)) same
-    ∙ (ap all_answers (map_twice (source_set table sets) (row_at rows) places)
-    ∙ sym (ap (λ (a : Answer (List Row)). a then λ them. all_answers (map (source_set table sets) them)) meant)))
-    answers
+-- where a condition means the rows at these places, what those that are meant become is what these become
+pub these_changed : (table : Table) (sets : List (ℕ × Term)) (c : Option Term) (rows : List Row) (places : List ℕ) → rows_meant c [] rows ≡ Ok (map (row_at rows) places)
+    → rows_changed table sets c rows ≡ all_answers (map (λ place. source_set table sets (row_at rows place)) places)
+these_changed table sets c rows places meant =
+    ap (λ (a : Answer (List Row)). a then λ them. all_answers (map (source_set table sets) them)) meant
+    ∙ ap all_answers (sym (map_twice (source_set table sets) (row_at rows) places))
 
 -- ---- no disk refuses
 
@@ -156,9 +154,3 @@ passed_fault (Err e) f same why = subst IsNotDiskFault (sym same) why
 pub set_quietly : {X : Type 0} (view : X → TableRow) (result : Result X Fault) (table : Table) (sets : List (ℕ × Term)) (row : Row) → AnswersBy view (source_set table sets row) result → IfErr result (λ fault. IsNotDiskFault fault)
 set_quietly view (Ok x) table sets row answers = tt
 set_quietly view (Err e) table sets row answers = quietly (source_set table sets row) e (of_set table sets row) answers
-
-pub not_changed : {X : Type 0} (view : X → List TableRow) (result : Result X Fault) (table : Table) (sets : List (ℕ × Term)) (rows : List Row) (places : List ℕ)
-    → AnswersBy view (all_answers (map (λ place. source_set table sets (row_at rows place)) places)) result → IfErr result (λ fault. IsNotDiskFault fault)
-not_changed view (Ok x) table sets rows places answers = tt
-not_changed view (Err e) table sets rows places answers =
-    quietly (all_answers (map (λ place. source_set table sets (row_at rows place)) places)) e (each (λ place. source_set table sets (row_at rows place)) (λ place. of_set table sets (row_at rows place)) places) answers

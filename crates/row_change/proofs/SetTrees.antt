@@ -131,6 +131,11 @@ module _ (table : Table) (sets : List (ℕ × Term)) (c : Option Term) where
       by (Ok ts) h = set_refused table sets (meant_by c) rows why h
       by (Err r) h = h
 
+  -- a refusal of which rows are meant is one of what they become
+  pub meant_refused : (rows : List Row) (fault : Fault) → IsRefusedBy (rows_meant c [] rows) fault → IsRefusedBy (rows_changed table sets c rows) fault
+  meant_refused rows fault (inl memory) = inl memory
+  meant_refused rows fault (inr why) = inr (ap (λ (a : Answer (List Row)). a then changes) why)
+
   -- what the rows become hold their rowids
   pub changed_hold : (rows : List Row) (new : List TableRow) → rows_changed table sets c rows ≡ Ok new → all_hold (own_column table) new ≡ true
   changed_hold rows new e = by (rows_meant c [] rows) e

@@ -22,7 +22,7 @@ use Rattle.row_change.specs.Meaning.{AreEnough}
 use Rattle.row_change.specs.Demands.{with_own_rowid}
 use Rattle.row_change.specs.NewRows.{row_of}
 use Rattle.row_change.specs.Trees.{FitNow}
-use Rattle.row_change.specs.Setting.{keeps_rowids, row_set, rows_changed, rows_set_each}
+use Rattle.row_change.specs.Setting.{keeps_rowids, row_set, rows_changed, rows_meant, rows_set_each}
 
 -- the rows with these in place of those of their rowids
 abbrev pub with_all_replaced : List Entry → List Entry → List Entry
@@ -60,6 +60,15 @@ SetsRows old new size root table sets condition given result = (rows : List Tabl
 abbrev pub TellsChanged : Table → List (ℕ × Term) → Option Term → List Row → Result (Vec stored.TableRow) Fault → Type 0
 TellsChanged table sets condition given result = (rows : List TableRow) → AreEnough condition given rows
     → IfOk result (λ new. rows_changed table sets condition (map as_source rows) ≡ Ok (map row_of new.items))
+
+-- Where a condition means these of the rows given, whatever condition that is, they become what SET makes of them, or the call is refused.
+abbrev pub SetsThese : {X : Type 0} → PageMap → PageMap → ℕ → ℕ → Table → List (ℕ × Term) → List Row → List Row → Result X Fault → Type 0
+SetsThese old new size root table sets given these result = (condition : Option Term) → rows_meant condition [] given ≡ Ok these
+    → SetsRows old new size root table sets condition given result
+
+-- Where a condition means these of the rows given, the rows that are answered are what they become.
+abbrev pub TellsThese : Table → List (ℕ × Term) → List Row → List Row → Result (Vec stored.TableRow) Fault → Type 0
+TellsThese table sets given these result = (condition : Option Term) → rows_meant condition [] given ≡ Ok these → TellsChanged table sets condition given result
 
 -- ---- one row
 

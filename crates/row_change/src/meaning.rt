@@ -28,7 +28,7 @@ pub fn row_copy(alloc: Global, rows: &Many<SourceRow>, place: usize) -> R<TableR
 }
 
 /// Copies of the rows at these places. (`Memory`.)
-fn copies_at(alloc: Global, rows: &Many<SourceRow>, places: &[usize]) -> R<Vec<TableRow>>
+pub fn copies_at(alloc: Global, rows: &Many<SourceRow>, places: &[usize]) -> R<Vec<TableRow>>
     ensures copied { IfOk result (λ them. map row_of them.items ≡ map
         (λ place. as_row (row_at rows.now place)) places.now) }
     ensures refused { IfErr result (λ fault. fault ≡ Fault.Memory) }

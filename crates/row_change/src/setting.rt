@@ -10,7 +10,7 @@ ghost use Rattle.query_terms.specs.Rows.{picked_rows, row_at, seen};
 ghost use Rattle.row_change.specs.Constraints.{with_affinity};
 ghost use Rattle.row_change.specs.NewRows.{row_of};
 ghost use Rattle.row_change.specs.Setting as law;
-ghost use Rattle.row_change.specs.Setting.{is_meant_for, rowid_left, rowid_number, rows_changed, rows_meant, set_over, source_set};
+ghost use Rattle.row_change.specs.Setting.{is_meant_for, rowid_left, rowid_number, rows_meant, set_over, source_set};
 
 use crate::demands::check_row;
 use crate::inserting::stored_value;
@@ -222,35 +222,20 @@ pub(crate) fn row_set_at(
 }
 
 /// What the rows at these places become by SET. (What `changed_row` refuses, in order.)
-fn changed_at(
+pub(crate) fn changed_at(
     alloc: Global,
     table: &Table,
     sets: &[(usize, Term)],
     rows: &Many<SourceRow>,
     places: &[usize],
 ) -> R<Vec<TableRow>>
-    ensures { AnswersBy (λ new. map row_of new.items)
+    ensures changed { AnswersBy (λ new. map row_of new.items)
         (all_answers (map (λ place. source_set table.now sets.now (row_at rows.now place)) places.now)) result }
+    ensures not_disk { IfErr result (λ fault. IsNotDiskFault fault) }
 {
     let mut new = Vec::new(alloc);
     'places: for place in places {
-        new.push(changed_row(alloc, table, sets, rows, *place)?)?;
+        new.push(row_set_at(alloc, table, sets, rows, *place)?)?;
     }
     Ok(new)
-}
-
-/// What the rows that are meant become by SET. (What the condition refuses for a row, and then what `changed_row` does.)
-pub(crate) fn changed_rows(
-    alloc: Global,
-    table: &Table,
-    sets: &[(usize, Term)],
-    rows: &Many<SourceRow>,
-    condition: &Option<Term>,
-) -> R<Vec<TableRow>>
-    ensures changed { AnswersBy (λ new. map row_of new.items)
-        (rows_changed table.now sets.now condition.now rows.now) result }
-    ensures not_disk { IfErr result (λ fault. IsNotDiskFault fault) }
-{
-    let places = places_meant(alloc, rows, condition)?;
-    changed_at(alloc, table, sets, rows, &places)
 }

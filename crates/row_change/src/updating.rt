@@ -1,14 +1,15 @@
 //! UPDATE.
 
-ghost use Rattle.std.specs.Prelude.{◌≡◌, IsTrue};
+ghost use Rattle.std.specs.Prelude.{◌≡◌, IsTrue, map};
 ghost use Rattle.pages.specs.Calls.{Causes};
 ghost use Rattle.query_terms.specs.Rows.{row_at};
 ghost use Rattle.row_change.specs.Agreement.{UpdatesSome};
-ghost use Rattle.row_change.specs.Updating.{SetsRow, SetsRows, TellsChanged};
+ghost use Rattle.row_change.specs.Updating.{SetsRow, SetsRows, SetsThese, TellsChanged, TellsThese};
 
 use crate::inserting::{changes_of, record_for};
+use crate::meaning::meant_places;
 use crate::putting::{move_record, replace_record};
-use crate::setting::{changed_rows, row_set_at, rowid_at};
+use crate::setting::{changed_at, row_set_at, rowid_at};
 use catalog::{Table, TableRow, named_databases_are_one, other_rows_are_listed};
 use pages::WritePages;
 use query_terms::{SourceRow, Term};
@@ -22,6 +23,32 @@ pub fn update_sets_its_rows()
 {
     other_rows_are_listed();
     named_databases_are_one();
+}
+
+/// Sets values in the rows of a table's tree that are those at these places, and answers what they have become, where SET leaves the rowids
+/// (`keeps_rowids`): in the rows that a condition means, where it has been evaluated (`meant_places`). (What SET's expressions, `check_row` and
+/// `change_rows` refuse, and a real; only what `change_rows` refuses leaves rows that are set.)
+pub fn set_rows_at<P: WritePages>(
+    alloc: Global,
+    pages: &mut P,
+    table: &Table,
+    sets: &[(usize, Term)],
+    rows: &Many<SourceRow>,
+    places: &[usize],
+) -> R<Vec<TableRow>>
+    ensures set { IsTrue (P.Pages.tells (P.Pages.below pages.old))
+        → SetsThese (P.Pages.map pages.old) (P.Pages.map pages.new)
+        (P.Pages.limits (P.Pages.below pages.old)).page
+        table.now.root table.now sets.now rows.now (map (row_at rows.now) places.now) result }
+    ensures rows { TellsThese table.now sets.now rows.now (map (row_at rows.now) places.now) result }
+    ensures kept { P.Pages.below pages.new ≡ P.Pages.below pages.old }
+    ensures causes { Causes result (P.Pages.failures pages.old) (P.Pages.failures pages.new)
+        (P.Pages.count pages.new ≡ (P.Pages.limits (P.Pages.below pages.new)).most) }
+{
+    let mut new = changed_at(alloc, table, sets, rows, places)?;
+    let changes = changes_of(alloc, table.own_column(), &mut new)?;
+    change_rows(alloc, pages, table.root, &changes)?;
+    Ok(new)
 }
 
 /// Sets values in the rows of a table's tree for which a condition is true, or in all where there is none, and answers what these rows have
@@ -45,10 +72,8 @@ pub fn set_new_rows<P: WritePages>(
     ensures causes { Causes result (P.Pages.failures pages.old) (P.Pages.failures pages.new)
         (P.Pages.count pages.new ≡ (P.Pages.limits (P.Pages.below pages.new)).most) }
 {
-    let mut new = changed_rows(alloc, table, sets, rows, condition)?;
-    let changes = changes_of(alloc, table.own_column(), &mut new)?;
-    change_rows(alloc, pages, table.root, &changes)?;
-    Ok(new)
+    let places = meant_places(alloc, rows, condition)?;
+    set_rows_at(alloc, pages, table, sets, rows, &places)
 }
 
 /// Sets values in one row of a table's tree, which is the row at a place, and answers what it has become. (What SET's expressions, `check_row`

@@ -1,95 +1,38 @@
-use Rattle.std.proofs.Common.{◌≡◌, ◌⊎◌, ◌∙◌, ap, List, map, subst, true, Ok, Err}
-use Rattle.sqlval.specs.declared.fault.Fault.TheVariants.{Memory, TooLong}
-use Rattle.tree_page.specs.Cells.{Pairwise}
-use Rattle.tree_table.specs.Calls.{ChangesRows}
-use Rattle.catalog.specs.Listed.{own_column}
-use Rattle.catalog.specs.declared.tables.TableRow as stored
-use Rattle.row_change.specs.Inserting.{AllStorable}
-use Rattle.row_change.specs.NewRows.{IsWritten, all_hold, entry_left, row_of}
-use Rattle.row_change.proofs.Records.{all_at_own, written_back}
-use Rattle.row_change.proofs.Replaced.{as_replaced}
-use Rattle.row_change.proofs.SetTrees.{changed_hold, none_changed, none_stored, none_told, passed_on, rows_replaced, told_changed}
+use Rattle.std.proofs.Common.{ℕ, List, map, subst}
+use Rattle.query_terms.specs.Rows.{row_at}
+use Rattle.row_change.specs.Updating.{SetsThese, TellsThese}
+use Rattle.row_change.proofs.SetTrees.{meant_refused, none_changed, none_told}
 use Rattle.row_change.proofs.updating.set_new_rows.Goals as goal
 
-pub returns-in_err-new-clause-set : goal.returns-in_err-new-clause-set
-returns-in_err-new-clause-set g c = λ told.
+pub returns-in_err-places-clause-set : goal.returns-in_err-places-clause-set
+returns-in_err-places-clause-set g c = λ told.
     (let pages = g.P.Pages in
     let table = c.args.table.now in
+    let sets = c.args.sets.now in
+    let condition = c.args.condition.now in
+    let rows = c.args.rows.now in
     let old = pages.map c.args.pages.now in
-    none_changed table c.args.sets.now c.args.condition.now old old (pages.limits (pages.below c.args.pages.now)).page table.root c.args.rows.now
-    c.in_err-new.field-0.0 c.from_residual.result c.from_residual.ensures.1 c.in_err-new.ensures.changed)
+    let fault = c.in_err-places.field-0.0 in
+    none_changed table sets condition old old (pages.limits (pages.below c.args.pages.now)).page table.root rows
+    fault c.from_residual.result c.from_residual.ensures.1 (meant_refused table sets condition rows fault c.in_err-places.ensures.places))
 
-pub returns-in_err-changes-clause-set : goal.returns-in_err-changes-clause-set
-returns-in_err-changes-clause-set g c = λ told.
-    (let pages = g.P.Pages in
-    let table = c.args.table.now in
-    let old = pages.map c.args.pages.now in
-    let own = c.own_column.result in
-    let fault = c.in_err-changes.field-0.0 in
-    let given = map row_of c.in_ok-new.new.items in
-    let holds = changed_hold table c.args.sets.now c.args.condition.now c.args.rows.now given c.in_ok-new.ensures.changed in
-    let why = all_at_own (λ own. (fault ≡ Memory) ⊎ ((fault ≡ TooLong) × (AllStorable given → ⊥))) own (own_column table) given c.own_column.ensures
-    (subst (λ (them : List stored.TableRow). all_hold own (map row_of them) ≡ true → (fault ≡ Memory) ⊎ ((fault ≡ TooLong) × (AllStorable (map row_of them) → ⊥))) c.deref_mut.ensures.value c.in_err-changes.ensures.refused) holds in
-    none_stored table c.args.sets.now c.args.condition.now old old (pages.limits (pages.below c.args.pages.now)).page table.root c.args.rows.now
-    given c.in_ok-new.ensures.changed fault c.from_residual-in_err-changes.result c.from_residual-in_err-changes.ensures.1 why)
-
-pub returns-in_err-change_rows-clause-set : goal.returns-in_err-change_rows-clause-set
-returns-in_err-change_rows-clause-set g c = λ told.
-    (let pages = g.P.Pages in
-    let table = c.args.table.now in
-    let old = pages.map c.args.pages.now in
-    let new = pages.map c.change_rows.new.pages in
-    let size = (pages.limits (pages.below c.args.pages.now)).page in
-    let own = c.own_column.result in
-    let changes = c.in_ok-changes.changes.items in
-    let fault = c.in_err-change_rows.field-0.0 in
-    let given = map row_of c.in_ok-new.new.items in
-    let holds = changed_hold table c.args.sets.now c.args.condition.now c.args.rows.now given c.in_ok-new.ensures.changed in
-    let written = all_at_own (λ own. Pairwise (IsWritten own) given (map entry_left changes)) own (own_column table) given c.own_column.ensures
-    (subst (λ (them : List stored.TableRow). all_hold own (map row_of them) ≡ true → Pairwise (IsWritten own) (map row_of them) (map entry_left changes)) c.deref_mut.ensures.value c.in_ok-changes.ensures.made) holds in
-    let changed = subst (λ them. ChangesRows old new size table.root them (Err fault)) c.deref.ensures.value (c.in_err-change_rows.ensures.changed told) in
-    passed_on table c.args.sets.now c.args.condition.now old new size table.root c.args.rows.now fault c.from_residual-in_err-change_rows.result c.from_residual-in_err-change_rows.ensures.1
-    (rows_replaced table c.args.sets.now c.args.condition.now old new size table.root c.args.rows.now given c.in_ok-new.ensures.changed
-    (map entry_left changes) (Err fault) written (as_replaced old new size table.root changes (Err fault) c.in_ok-changes.ensures.some changed)))
+pub returns-in_err-places-clause-rows : goal.returns-in_err-places-clause-rows
+returns-in_err-places-clause-rows g c =
+    none_told c.args.table.now c.args.sets.now c.args.condition.now c.args.rows.now c.in_err-places.field-0.0 c.from_residual.result c.from_residual.ensures.1
 
 pub returns-clause-set : goal.returns-clause-set
 returns-clause-set g c = λ told.
     (let pages = g.P.Pages in
     let table = c.args.table.now in
+    let rows = c.args.rows.now in
     let old = pages.map c.args.pages.now in
-    let new = pages.map c.change_rows.new.pages in
+    let new = pages.map c.set_rows_at.new.pages in
     let size = (pages.limits (pages.below c.args.pages.now)).page in
-    let own = c.own_column.result in
-    let changes = c.in_ok-changes.changes.items in
-    let given = map row_of c.in_ok-new.new.items in
-    let holds = changed_hold table c.args.sets.now c.args.condition.now c.args.rows.now given c.in_ok-new.ensures.changed in
-    let written = all_at_own (λ own. Pairwise (IsWritten own) given (map entry_left changes)) own (own_column table) given c.own_column.ensures
-    (subst (λ (them : List stored.TableRow). all_hold own (map row_of them) ≡ true → Pairwise (IsWritten own) (map row_of them) (map entry_left changes)) c.deref_mut.ensures.value c.in_ok-changes.ensures.made) holds in
-    let changed = subst (λ them. ChangesRows old new size table.root them (Ok tt)) c.deref.ensures.value (c.in_ok-change_rows.ensures.changed told) in
-    rows_replaced table c.args.sets.now c.args.condition.now old new size table.root c.args.rows.now given c.in_ok-new.ensures.changed
-    (map entry_left changes) (Ok tt) written (as_replaced old new size table.root changes (Ok tt) c.in_ok-changes.ensures.some changed))
+    subst (λ (places : List ℕ). SetsThese old new size table.root table c.args.sets.now rows (map (row_at rows) places) c.set_rows_at.result) c.deref.ensures.value (c.set_rows_at.ensures.set told)
+    c.args.condition.now c.in_ok-places.ensures.places)
 
 pub returns-clause-rows : goal.returns-clause-rows
 returns-clause-rows g c =
-    let table = c.args.table.now in
-    let own = c.own_column.result in
-    let given = map row_of c.in_ok-new.new.items in
-    let holds = changed_hold table c.args.sets.now c.args.condition.now c.args.rows.now given c.in_ok-new.ensures.changed in
-    let same = all_at_own (λ own. map row_of c.changes_of.new.rows ≡ given) own (own_column table) given c.own_column.ensures
-    (subst (λ (them : List stored.TableRow). all_hold own (map row_of them) ≡ true → map row_of c.changes_of.new.rows ≡ map row_of them) c.deref_mut.ensures.value c.in_ok-changes.ensures.kept) holds in
-    let back = written_back c.in_ok-new.new.len c.changes_of.new.rows c.in_ok-new.new.items (c.changes_of.auto.rows ∙ c.deref_mut.ensures.len) in
-    told_changed table c.args.sets.now c.args.condition.now c.args.rows.now given _ c.in_ok-new.ensures.changed (ap (map row_of) back ∙ same)
-
-pub returns-in_err-new-clause-rows : goal.returns-in_err-new-clause-rows
-returns-in_err-new-clause-rows g c =
-    none_told c.args.table.now c.args.sets.now c.args.condition.now c.args.rows.now c.in_err-new.field-0.0 c.from_residual.result c.from_residual.ensures.1
-
-pub returns-in_err-changes-clause-rows : goal.returns-in_err-changes-clause-rows
-returns-in_err-changes-clause-rows g c =
-    none_told c.args.table.now c.args.sets.now c.args.condition.now c.args.rows.now
-    c.in_err-changes.field-0.0 c.from_residual-in_err-changes.result c.from_residual-in_err-changes.ensures.1
-
-pub returns-in_err-change_rows-clause-rows : goal.returns-in_err-change_rows-clause-rows
-returns-in_err-change_rows-clause-rows g c =
-    none_told c.args.table.now c.args.sets.now c.args.condition.now c.args.rows.now
-    c.in_err-change_rows.field-0.0 c.from_residual-in_err-change_rows.result c.from_residual-in_err-change_rows.ensures.1
+    let rows = c.args.rows.now in
+    subst (λ (places : List ℕ). TellsThese c.args.table.now c.args.sets.now rows (map (row_at rows) places) c.set_rows_at.result) c.deref.ensures.value c.set_rows_at.ensures.rows
+    c.args.condition.now c.in_ok-places.ensures.places
