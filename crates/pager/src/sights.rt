@@ -86,11 +86,12 @@ impl<'a, D: Disk + Drop> Pages for Reading<'a, D> {
     }
 }
 
-/// Finds a page that a writer sees: its place among the changed ones, or None where it is read into the buffer. (`Damaged` for a number
-/// outside 1 to the size; what `fill` refuses.)
+/// Finds a page that a writer sees: its place among the changed ones, which is looked for at a known one first, or None where it is read into the
+/// buffer. (`Damaged` for a number outside 1 to the size; what `fill` refuses.)
 fn fetch<D: Disk + Drop>(
     log: &mut Log<D>,
     writer: &Writer,
+    known: Option<usize>,
     number: u32,
     buffer: &mut Vec<u8>,
 ) -> R<Option<usize>>
@@ -109,7 +110,7 @@ fn fetch<D: Disk + Drop>(
     if number == 0 || number > writer.size() {
         return Err(Fault::Damaged(Damage::Size, number));
     }
-    match writer.place(number) {
+    match writer.place_from(known, number) {
         Some(index) => Ok(Some(index)),
         None => {
             fill(log, writer.snapshot(), number, buffer)?;
@@ -152,7 +153,7 @@ fn page_over<D: Disk + Drop>(
         → offset + length bytes.now ≤ page_size_of writer.now
         → IfErr result IsOutside }
 {
-    let place = fetch(log, writer, number, buffer)?;
+    let place = fetch(log, writer, None, number, buffer)?;
     let mut page = lend(writer, place, buffer.as_slice()).to_vec(alloc)?;
     if !write_within(&mut page, offset, bytes) {
         return Err(Fault::Damaged(Damage::Page, number));
@@ -196,7 +197,7 @@ impl<'a, D: Disk + Drop> Pages for Viewing<'a, D> {
     }
 
     fn load(&mut self, number: u32) -> R<()> {
-        self.place = fetch(self.log, self.writer, number, self.buffer)?;
+        self.place = fetch(self.log, self.writer, self.place, number, self.buffer)?;
         Ok(())
     }
 
@@ -242,7 +243,7 @@ impl<'a, D: Disk + Drop> Pages for Writing<'a, D> {
     }
 
     fn load(&mut self, number: u32) -> R<()> {
-        self.place = fetch(self.log, self.writer, number, self.buffer)?;
+        self.place = fetch(self.log, self.writer, self.place, number, self.buffer)?;
         Ok(())
     }
 
@@ -258,7 +259,7 @@ impl<'a, D: Disk + Drop> WritePages for Writing<'a, D> {
     }
 
     fn write_over(&mut self, number: u32, offset: usize, bytes: &[u8]) -> R<()> {
-        if let Some(index) = self.writer.place(number) {
+        if let Some(index) = self.writer.place_from(self.place, number) {
             return self
                 .writer
                 .write_part(self.alloc, index, number, offset, bytes);

@@ -266,6 +266,26 @@ impl Writer {
         }
     }
 
+    /// Whether the changed page at a place has this number.
+    fn is_at(&self, index: usize, number: u32) -> bool
+        ensures { IsTrue result → IsAt (changes_of self.now) number index }
+    {
+        index < self.pages.len() && self.pages.at(index).number == number
+    }
+
+    /// The place of a page among the changed ones, which is looked for at a known one first; None if the page isn't changed.
+    pub(crate) fn place_from(&self, known: Option<usize>, number: u32) -> Option<usize>
+        ensures found { IfSome result (λ index. IsAt (changes_of self.now) number index) }
+        ensures none { IsConsistent self.now → IfNone result (IsNotAmong (changes_of self.now) number) }
+    {
+        if let Some(index) = known {
+            if self.is_at(index, number) {
+                return Some(index);
+            }
+        }
+        self.place(number)
+    }
+
     /// The bytes of the changed page at a place, and none past the last place.
     pub(crate) fn bytes_at(&self, index: usize) -> &[u8]
         ensures { result.now ≡ slice_index_or (bytes_of (changes_of self.now)) index [] }
