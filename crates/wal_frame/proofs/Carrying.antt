@@ -1,16 +1,12 @@
 -- How sums are carried over bytes.
-use Rattle.std.proofs.Common.{◌≡◌, ◌≤◌, ◌+◌, ◌-◌, ◌*◌, ◌<◌, ℕ, zero, suc, List, [], ◌∷◌, ◌++◌, length, take, drop, get_or, refl, sym, ◌∙◌, ap, arith}
-use Rattle.std.proofs.lemmas.List.{take_rest}
+use Rattle.std.proofs.Common.{◌≡◌, ◌≤◌, ◌*◌, ◌<◌, ℕ, zero, suc, List, [], ◌∷◌, ◌++◌, length, take, drop, refl, sym, ◌∙◌, ap, arith}
 use Rattle.wal_frame.specs.declared.sums.Sum.{Sum}
 use Rattle.wal_frame.specs.declared.sums.WordOrder.{WordOrder}
 use Rattle.wal_frame.specs.Sums.{word_of, words, carried, next}
 
--- the word that stands at a place
-abbrev pub word_at : WordOrder → List ℕ → ℕ → ℕ
-word_at order xs i = word_of order (get_or xs i 0 ∷ get_or xs (i + 1) 0 ∷ get_or xs (i + 2) 0 ∷ get_or xs (i + 3) 0 ∷ [])
-
 -- eight bytes first
-pub carried_eight : (order : WordOrder) (sum : Sum) (xs : List ℕ) → 8 ≤ length xs → carried sum (words order xs) ≡ carried (next sum (word_at order xs 0) (word_at order xs 4)) (words order (drop 8 xs))
+carried_eight : (order : WordOrder) (sum : Sum) (xs : List ℕ) → 8 ≤ length xs
+    → carried sum (words order xs) ≡ carried (next sum (word_of order (take 4 xs)) (word_of order (take 4 (drop 4 xs)))) (words order (drop 4 (drop 4 xs)))
 carried_eight order sum (a ∷ b ∷ c ∷ d ∷ e ∷ f ∷ g ∷ h ∷ rest) long = refl
 carried_eight order sum (a ∷ b ∷ c ∷ d ∷ e ∷ f ∷ g ∷ []) long = absurd (omega (arith, long))
 carried_eight order sum (a ∷ b ∷ c ∷ d ∷ e ∷ f ∷ []) long = absurd (omega (arith, long))
@@ -33,12 +29,14 @@ carried_few order sum (a ∷ b ∷ []) short = refl
 carried_few order sum (a ∷ []) short = refl
 carried_few order sum [] short = refl
 
--- one step of the loop
-pub carried_step : (order : WordOrder) (sum more : Sum) (xs : List ℕ) (x y : ℕ) → 8 ≤ length xs → x ≡ word_at order xs 0 → y ≡ word_at order xs 4 → more ≡ next sum x y
-    → carried more (words order (take (length xs - 8) (drop 8 xs))) ≡ carried sum (words order xs)
-carried_step order sum more xs x y long is_x is_y is_more =
-    ap (λ (s : Sum). carried s (words order (take (length xs - 8) (drop 8 xs)))) (is_more ∙ ap (λ (n : ℕ). next sum n y) is_x ∙ ap (λ (n : ℕ). next sum (word_at order xs 0) n) is_y)
-    ∙ ap (λ (l : List ℕ). carried (next sum (word_at order xs 0) (word_at order xs 4)) (words order l)) (take_rest xs 8)
+-- one step of the loop: four bytes, four more, and the rest
+pub carried_step : (order : WordOrder) (sum more : Sum) (xs one after other rest : List ℕ) (x y : ℕ) → 8 ≤ length xs → one ≡ take 4 xs → after ≡ drop 4 xs → other ≡ take 4 after → rest ≡ drop 4 after
+    → x ≡ word_of order one → y ≡ word_of order other → more ≡ next sum x y → carried more (words order rest) ≡ carried sum (words order xs)
+carried_step order sum more xs one after other rest x y long is_one is_after is_other is_rest is_x is_y is_more =
+    ap (λ (s : Sum). carried s (words order rest)) (is_more
+    ∙ ap (λ (n : ℕ). next sum n y) (is_x ∙ ap (word_of order) is_one)
+    ∙ ap (λ (n : ℕ). next sum (word_of order (take 4 xs)) n) (is_y ∙ ap (word_of order) (is_other ∙ ap (take 4) is_after)))
+    ∙ ap (λ (l : List ℕ). carried (next sum (word_of order (take 4 xs)) (word_of order (take 4 (drop 4 xs)))) (words order l)) (is_rest ∙ ap (drop 4) is_after)
     ∙ sym (carried_eight order sum xs long)
 
 -- over 8 n bytes and then over others

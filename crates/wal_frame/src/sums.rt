@@ -55,9 +55,12 @@ impl Sum {
     {
         let mut sum = self;
         let mut rest = bytes;
-        'pairs: while let [a, b, c, d, e, f, g, h, after @ ..] = rest {
-            sum = sum.pair(order.word([*a, *b, *c, *d]), order.word([*e, *f, *g, *h]));
-            rest = after;
+        'pairs: while let Some((one, after)) = rest.split_first_chunk::<4>() {
+            let Some((other, more)) = after.split_first_chunk::<4>() else {
+                return sum;
+            };
+            sum = sum.pair(order.word(*one), order.word(*other));
+            rest = more;
         }
         sum
     }
