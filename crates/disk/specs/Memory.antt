@@ -35,7 +35,8 @@ pub record Follows (old new : MemDisk) (ok : Bool) : Type 0 where
   pub done : is_failing (schedule_of old) (calls_of new) ≡ false → (ok ≡ true) ⊎ (lacked_memory new ≡ true)
 
 -- So does one that changes the file: until the file has crashed it leaves this version, whether it lands or fails, unless it found no
--- memory.
+-- memory; after that the file stays as it was.
 pub record FollowsWith (version : Version) (old new : MemDisk) (ok : Bool) : Type 0 where
   pub follows : Follows old new ok
   pub leaves : has_come (schedule_of old).stop_at (calls_of old) ≡ false → lacked_memory new ≡ false → Gains version (memory_file old) (memory_file new)
+  pub gone : has_come (schedule_of old).stop_at (calls_of old) ≡ true → memory_file new ≡ memory_file old

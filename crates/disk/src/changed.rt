@@ -90,6 +90,7 @@ pub fn overwrite(
         → OnOk result ((v : Vec ℕ Global) × (v.items ≡ bytes.now)
         × (changes.new.items ≡ changes.old.items ++ Write at v lands ∷ [])) }
     ensures answer { IfOk result (λ landed. landed ≡ lands) }
+    ensures gone { IsTrue is_gone → changes.new.items ≡ changes.old.items }
 {
     if !is_gone {
         record_write(changes, content, at, copy_of(alloc, bytes)?, lands)?;
@@ -115,6 +116,7 @@ pub fn cut_to(
     ensures recorded { IsFalse is_gone → OnOk result
         (changes.new.items ≡ changes.old.items ++ Cut len lands ∷ []) }
     ensures answer { IfOk result (λ landed. landed ≡ lands) }
+    ensures gone { IsTrue is_gone → changes.new.items ≡ changes.old.items }
 {
     if !is_gone {
         changes

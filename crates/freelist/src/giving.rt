@@ -1,6 +1,6 @@
 //! Giving a page back.
 
-ghost use Rattle.std.specs.Prelude.{◌≡◌, ◌≤◌, ◌<◌, ◌^◌, ◌+◌, ◌/◌, ℕ, List, length, IsTrue};
+ghost use Rattle.std.specs.Prelude.{◌≡◌, ◌≤◌, ◌<◌, ◌^◌, ◌+◌, ◌/◌, ℕ, List, length, IsTrue, OnOk};
 ghost use Rattle.sqlval.specs.PageSizes.{IsPageSize};
 ghost use Rattle.pages.specs.Map.{page_at};
 ghost use Rattle.pages.specs.Calls.{Causes};
@@ -123,6 +123,7 @@ fn give_told<P: WritePages>(
         → IsFront (P.Pages.map pages.old) first.old header
         → Gives (P.Pages.map pages.old) (P.Pages.map pages.new)
         (P.Pages.limits (P.Pages.below pages.old)).page page result }
+    ensures counted_up { OnOk result (header.freelist_count + 1 < 2 ^ 32) }
     ensures kept { P.Pages.below pages.new ≡ P.Pages.below pages.old }
     ensures counted { P.Pages.count pages.new ≡ P.Pages.count pages.old }
     ensures causes { Causes result (P.Pages.failures pages.old) (P.Pages.failures pages.new) ⊥ }

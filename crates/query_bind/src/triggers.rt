@@ -51,6 +51,7 @@ fn fit_table(alloc: Global, table: &Table, definition: &TriggerDefinition) -> R<
 /// That a trigger fits a view: it is INSTEAD OF. (`Misuse(TriggerTime)`.)
 fn fit_view(definition: &TriggerDefinition) -> R<()>
     ensures fits { (v : View) → NamesBy (λ done. ATrigger definition.now) (trigger_made (Some (AView v)) definition.now) result }
+    ensures why { IfErr result (λ fault. fault ≡ Fault.Misuse Misuse.TriggerTime) }
     ensures not_disk { IfErr result (λ fault. IsNotDiskFault fault) }
 {
     if definition.time == TriggerTime::InsteadOf {

@@ -52,6 +52,7 @@ fn joined(alloc: Global, words: &[Name]) -> R<String>
 /// The affinity of a column's type. (`Unsupported(RealColumn)`.)
 fn affinity_in(alloc: Global, definition: &ColumnDefinition) -> R<Affinity>
     ensures names { Names (affinity_known (declared_affinity (type_text definition.now))) result }
+    ensures why { IfErr result (λ fault. (fault ≡ Fault.Memory) ⊎ (fault ≡ Fault.Unsupported Feature.RealColumn)) }
     ensures not_disk { IfErr result (λ fault. IsNotDiskFault fault) }
 {
     let declared = joined(alloc, definition.declared.words.as_slice())?;

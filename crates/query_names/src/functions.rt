@@ -1,6 +1,6 @@
 //! Functions and collations by name, and calls.
 
-ghost use Rattle.std.specs.Prelude.{◌≡◌, ◌&&◌, not, Some, true, length, IfErr};
+ghost use Rattle.std.specs.Prelude.{◌≡◌, ◌⊎◌, ◌&&◌, not, Some, false, true, length, IfErr};
 ghost use Rattle.sqlval.specs.Faults.{IsNotDiskFault};
 ghost use Rattle.query_terms.specs.Terms.{terms};
 ghost use Rattle.query_names.specs.Checked.{known_map};
@@ -125,8 +125,11 @@ fn aggregate_of(
     aggregate: Aggregate,
     mut arguments: Vec<Term>,
 ) -> R<Term>
-    ensures { Names (known_map (λ call. call (terms arguments.items))
+    ensures names { Names (known_map (λ call. call (terms arguments.items))
         (meant.called totals (Some (Called.OfAggregate aggregate)) (length arguments.items))) result }
+    ensures why { IfErr result (λ fault. (fault ≡ Fault.Memory)
+        ⊎ ((fault ≡ Fault.Misuse Misuse.Aggregate) × (totals ≡ false)
+        ⊎ (fault ≡ Fault.Misuse Misuse.Count) × (totals ≡ true))) }
 {
     if !totals {
         return Err(Fault::Misuse(Misuse::Aggregate));

@@ -1,6 +1,7 @@
 //! What is kept of an aggregate's arguments.
 
-ghost use Rattle.std.specs.Prelude.{◌≡◌, ◌+◌, ◌+ℤ◌, ◌++◌, ◌∷◌, [], IfErr, List, Ok, count_by, if◌then◌else◌, not};
+ghost use Rattle.std.specs.Prelude.{◌≡◌, ◌≤◌, ◌^◌, ◌+◌, ◌+ℤ◌, ◌++◌, ◌∷◌, [], FitsSigned, IfErr, List, Ok, count_by, if◌then◌else◌, not};
+ghost use Rattle.std.specs.Int.{w128};
 ghost use Rattle.sqlval.specs.Conversion.{word as word_of};
 ghost use Rattle.sqlval.specs.Faults.{IsOrMemory};
 ghost use Rattle.sqlval.specs.Fields.{value_of};
@@ -32,7 +33,8 @@ pub enum Tally {
 
 /// One more. (`Memory` after 2^64 - 1.)
 fn one_more(count: u64) -> R<u64>
-    ensures { IsOrMemory (λ more. more ≡ count + 1) result }
+    ensures more { IsOrMemory (λ more. more ≡ count + 1) result }
+    ensures refused { IfErr result (λ fault. 2 ^ 64 ≤ count + 1) }
 {
     count.checked_add(1).ok_or(Fault::Memory)
 }
@@ -49,7 +51,8 @@ fn one_more_value(count: u64, value: Field<'_>) -> R<u64>
 
 /// The exact sum of two. (`Memory` past 128 bits.)
 fn sum_of_two(sum: i128, number: i64) -> R<i128>
-    ensures { IsOrMemory (λ total. total ≡ sum +ℤ number) result }
+    ensures total { IsOrMemory (λ total. total ≡ sum +ℤ number) result }
+    ensures refused { IfErr result (λ fault. FitsSigned w128 (sum +ℤ number) → ⊥) }
 {
     sum.checked_add(i128::from(number)).ok_or(Fault::Memory)
 }

@@ -1,5 +1,5 @@
 -- The values that the record of a table's row has.
-use Rattle.std.specs.Prelude.{◌≡◌, ◌⊎◌, Bool, true, false, ℕ, List, length, All, Option, Some, None, slice_get}
+use Rattle.std.specs.Prelude.{◌≡◌, ◌⊎◌, ⊤, Bool, true, false, ℕ, List, length, All, Option, Some, None, Result, Err, slice_get}
 use Rattle.sqlval.specs.Sameness.{is_same_value}
 use Rattle.sqlval.specs.declared.value.Value.{Value}
 use Rattle.sqlval.specs.declared.value.Value.TheVariants.{Null}
@@ -24,3 +24,9 @@ pub record AreOfRow (width : ℕ) (own : Option ℕ) (values : List Value) : Typ
 abbrev pub IsRowFault : Fault → Type 0
 IsRowFault fault =
     (fault ≡ Unsupported Feature.Float) ⊎ ((fault ≡ Damaged Damage.Record 0) ⊎ ((fault ≡ Unsupported Feature.ColumnCount) ⊎ (fault ≡ Unsupported Feature.Limit)))
+
+-- Which refusal the record of values gets that are no row's: of the first of these that is wrong.
+pub record IsRefusedInOrder (width : ℕ) (own : Option ℕ) (values : List Value) (result : Result ⊤ Fault) : Type 0 where
+  pub count : (length values ≡ width → ⊥) → result ≡ Err (Unsupported Feature.ColumnCount)
+  pub place : length values ≡ width → has_null_at own values ≡ false → result ≡ Err (Damaged Damage.Record 0)
+  pub limit : length values ≡ width → has_null_at own values ≡ true → (All IsStorable values → ⊥) → result ≡ Err (Unsupported Feature.Limit)

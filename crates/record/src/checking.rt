@@ -1,6 +1,6 @@
 //! The check of a row's record where it lies: each value is looked at once, from left to right, and none is kept.
 
-ghost use Rattle.std.specs.Prelude.{◌≡◌, ◌↔◌, ◌++◌, ◌∷◌, [], IsTrue, List, length, All, Ok, Err, IfOk, IfErr, OnOk};
+ghost use Rattle.std.specs.Prelude.{◌≡◌, ◌↔◌, ◌++◌, ◌∷◌, [], IsTrue, false, true, List, length, All, Ok, Err, IfOk, IfErr, OnOk};
 ghost use Rattle.std.specs.Str.{is_utf8};
 ghost use Rattle.sqlval.specs.Sameness.{is_same_value};
 ghost use Rattle.sqlval.specs.declared.value.Value.{Value};
@@ -8,7 +8,7 @@ ghost use Rattle.sqlval.specs.declared.value.Value.TheVariants.{Null};
 ghost use Rattle.record.specs.declared.field.Wrong.{Wrong};
 ghost use Rattle.record.specs.Record.{IsRecord};
 ghost use Rattle.record.specs.Reading.{body_at, column_at, columns_at, fault_of, record_at};
-ghost use Rattle.record.specs.Rows.{AreOfRow, IsRowFault, has_null_at};
+ghost use Rattle.record.specs.Rows.{AreOfRow, IsRefusedInOrder, IsRowFault, has_null_at};
 ghost use Rattle.record.specs.Writing.{IsStorable};
 
 use crate::field::{Wrong, body_size};
@@ -134,6 +134,10 @@ fn check_seen(seen: Seen, width: usize) -> R<()>
     ensures found { OnOk result ((seen.count ≡ width) × IsTrue seen.has_null × IsTrue seen.is_storable) }
     ensures only { seen.count ≡ width → IsTrue seen.has_null → IsTrue seen.is_storable → result ≡ Ok tt }
     ensures refused { IfErr result (λ fault. IsRowFault fault) }
+    ensures count { (seen.count ≡ width → ⊥) → result ≡ Err (Fault.Unsupported Feature.ColumnCount) }
+    ensures place { seen.count ≡ width → seen.has_null ≡ false → result ≡ Err (Fault.Damaged Damage.Record 0) }
+    ensures limit { seen.count ≡ width → IsTrue seen.has_null → (IsTrue seen.is_storable → ⊥)
+        → result ≡ Err (Fault.Unsupported Feature.Limit) }
 {
     if seen.count != width {
         return Err(Fault::Unsupported(Feature::ColumnCount));
@@ -161,6 +165,8 @@ pub fn check_record(bytes: &[u8], width: usize, own: Option<usize>) -> R<()>
     // What is no record is refused for that first.
     ensures why { (wrong : Wrong) → record_at bytes.now ≡ Err wrong → result ≡ Err (fault_of wrong) }
     ensures refused { IfErr result (λ fault. IsRowFault fault) }
+    // A record is refused for the first of these: another number of values, a value in the place of NULL, one that can't be stored.
+    ensures first { (values : List Value) → IsRecord bytes.now values → IsRefusedInOrder width own values result }
 {
     let (types, bodies) = halves_of(bytes)?;
     let seen = look_over(types, bodies, own)?;

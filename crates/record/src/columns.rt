@@ -1,6 +1,6 @@
 //! The values of a record, each read where it is asked for.
 
-ghost use Rattle.std.specs.Prelude.{◌≡◌, ◌<◌, ◌++◌, IfOk, IfSome, OnOk, length, map, option_map, slice_get, unwrap_or};
+ghost use Rattle.std.specs.Prelude.{◌≡◌, ◌<◌, ◌≤◌, ◌+◌, ◌++◌, IsOk, IfSome, OnOk, length, map, option_map, slice_get, unwrap_or};
 ghost use Rattle.sqlval.specs.declared.value.Value.TheVariants.{Null};
 ghost use Rattle.sqlval.specs.Fields.{value_of};
 ghost use Rattle.record.specs.Columns.{HoldsValues, left_after, value_here, values_from, values_in};
@@ -9,8 +9,8 @@ use crate::field::{body_size, field_typed};
 use crate::row::halves_of;
 use crate::varint::get_varint;
 use smallvec::SmallVec;
-use sqlval::{Field, Many, Value};
-use std::alloc::{AllocError, Global};
+use sqlval::Field;
+use std::alloc::AllocError;
 
 /// Values that lie elsewhere: up to 16 of them take no memory.
 pub type Fields<'a> = SmallVec<Field<'a>, 16>;
@@ -58,8 +58,10 @@ fn put_fields<'a>(
     bodies: &'a [u8],
     fields: &mut Fields<'a>,
 ) -> Result<(), AllocError>
-    ensures { OnOk result (map value_of fields.new.items
+    ensures all { OnOk result (map value_of fields.new.items
         ≡ map value_of fields.old.items ++ values_from (length types.now) types.now bodies.now) }
+    ensures room { length fields.old.items + length (values_from (length types.now) types.now bodies.now)
+        ≤ fields.old.capacity → IsOk result }
 {
     let mut types_left = types;
     let mut bodies_left = bodies;
@@ -85,26 +87,14 @@ pub fn value_at(bytes: &[u8], index: usize) -> Field<'_>
 
 /// Reads the values of the record in these bytes, where they lie, as `value_at` gives them, in place of those that are there.
 pub fn read_fields<'a>(bytes: &'a [u8], fields: &mut Fields<'a>) -> Result<(), AllocError>
-    ensures { OnOk result (map value_of fields.new.items ≡ values_in bytes.now) }
+    ensures all { OnOk result (map value_of fields.new.items ≡ values_in bytes.now) }
+    ensures room { length (values_in bytes.now) ≤ fields.old.capacity → IsOk result }
 {
     fields.clear();
     match halves_of(bytes) {
         Ok((types, bodies)) => put_fields(types, bodies, fields),
         Err(_) => Ok(()),
     }
-}
-
-/// Copies of the values of the record in these bytes, as `value_at` gives them.
-pub fn values_of(alloc: Global, bytes: &[u8]) -> Result<Many<Value>, AllocError>
-    ensures { IfOk result (λ values. values ≡ values_in bytes.now) }
-{
-    let mut fields = SmallVec::new(alloc);
-    read_fields(bytes, &mut fields)?;
-    let mut values = Vec::with_capacity(alloc, fields.len())?;
-    'fields: for field in fields.as_slice() {
-        values.push(field.to_value(alloc)?)?;
-    }
-    Ok(Many::from_vec(values))
 }
 
 /// In the bytes of a record lie its values.

@@ -23,7 +23,7 @@ mod varint;
 mod writing;
 
 pub use checking::check_record;
-pub use columns::{Fields, read_fields, records_hold_their_values, value_at, values_of};
+pub use columns::{Fields, read_fields, records_hold_their_values, value_at};
 pub use field::{Wrong, read_field};
 pub use row::{Record, bytes_determine_values, halves_of, records_are_read};
 pub use varint::{get_varint, put_varint, varint_len};

@@ -1,6 +1,6 @@
 //! Rows written as records.
 
-ghost use Rattle.std.specs.Prelude.{◌≡◌, ◌⊎◌, ◌<◌, ◌≤◌, ◌+◌, ◌++◌, ◌↔◌, IsTrue, ℕ, List, length, vec_capacity, map, All, IfOk, IfErr, OnOk};
+ghost use Rattle.std.specs.Prelude.{◌≡◌, ◌⊎◌, ◌<◌, ◌≤◌, ◌+◌, ◌++◌, ◌↔◌, IsTrue, ℕ, List, length, vec_capacity, map, All, Err, IfOk, IfErr, OnOk};
 ghost use Rattle.std.specs.List.{flat_map};
 ghost use Rattle.sqlval.specs.Fields.{value_of};
 ghost use Rattle.record.specs.Record.{IsRecord};
@@ -265,6 +265,8 @@ pub fn encode_row(alloc: Global, values: &[Value]) -> R<Vec<u8>>
     ensures exact { IfOk result (λ bytes. bytes.items ≡ record_of values.now) }
     ensures refused { IfErr result (λ fault. (fault ≡ Fault.Memory)
         ⊎ ((fault ≡ Fault.TooLong) × (AreStorable values.now → ⊥))) }
+    // Values that no record can hold are refused for that.
+    ensures long { (AreStorable values.now → ⊥) → result ≡ Err Fault.TooLong }
 {
     if !is_storable(values) {
         return Err(Fault::TooLong);

@@ -1,6 +1,6 @@
 //! Statements copied, with the values of parameters.
 
-ghost use Rattle.std.specs.Prelude.{◌≡◌, IfErr, IfOk};
+ghost use Rattle.std.specs.Prelude.{◌≡◌, None, Ok, IfErr, IfOk};
 ghost use Rattle.sqlval.specs.declared.fault.Fault.TheVariants.{Memory};
 ghost use Rattle.sql_bound.specs.Bound.{bound_statement};
 
@@ -15,6 +15,8 @@ use std::alloc::Global;
 pub fn bound(alloc: Global, statement: &Statement, values: &[Value]) -> R<Option<Statement>>
     ensures is { IfOk result (λ copy. copy ≡ bound_statement values.now statement.now) }
     ensures memory { IfErr result (λ fault. fault ≡ Memory) }
+    // Other statements aren't copied, and so never refused.
+    ensures others { bound_statement values.now statement.now ≡ None → result ≡ Ok None }
 {
     match statement {
         Statement::Select(query) => Ok(Some(Statement::Select(bound_query(alloc, values, query)?))),

@@ -4,10 +4,11 @@ use Rattle.std.proofs.lemmas.Bool.Decides.{eqb_tells}
 use Rattle.std.specs.Char.{to_ascii_lowercase}
 use Rattle.std.specs.Str.{str_eq_ignore_ascii_case}
 use Rattle.sql_lexer.specs.Lex.{Text, lookup, next_byte, reserved}
+use Rattle.sql_lexer.specs.Words.{words}
 use Rattle.sql_lexer.specs.declared.keyword.Keyword.{Keyword}
 use Rattle.sql_lexer.specs.declared.keyword.TheConstants.{KEYWORDS, STARTS}
 
--- the reserved words, as the definition has them
+-- the reserved words, as the table has them
 abbrev pub all : List (Text × Keyword)
 all = map (λ k. (k.0.now, k.1)) KEYWORDS
 
@@ -142,10 +143,10 @@ pub stands : (n b : ℕ) (z : Text) → n < 26 → to_ascii_lowercase b ≡ 97 +
 stands n b z lt e = ap (λ (ks : List (Text × Keyword)). lookup ks (b ∷ z)) (each_below Stands 26 n stand lt).2 ∙ by_letter (97 + n) b z e all
 
 -- a word that isn't empty is found in the part of its first letter
-pub reserved_in : (from to : ℕ) (z : Text) → 0 < length z → ((rest : Text) → lookup (entries from to) (slice_index z 0 ∷ rest) ≡ lookup all (slice_index z 0 ∷ rest)) → lookup (entries from to) z ≡ reserved z
+pub reserved_in : (from to : ℕ) (z : Text) → all ≡ words → 0 < length z → ((rest : Text) → lookup (entries from to) (slice_index z 0 ∷ rest) ≡ lookup all (slice_index z 0 ∷ rest)) → lookup (entries from to) z ≡ reserved z
 unfolding reserved
-reserved_in from to [] some h = absurd (omega arith)
-reserved_in from to (b ∷ z) some h = h z
+reserved_in from to [] spelled some h = absurd (omega arith)
+reserved_in from to (b ∷ z) spelled some h = h z ∙ ap (λ (ks : List (Text × Keyword)). lookup ks (b ∷ z)) spelled
 
 -- a part of a list, and the function on each element
 take_map : {X Y : Type 0} (f : X → Y) (n : ℕ) (xs : List X) → map f (take n xs) ≡ take n (map f xs)

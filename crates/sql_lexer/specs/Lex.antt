@@ -1,15 +1,15 @@
 -- Which token stands at the front of a text, and the tokens of a whole text (SQL As Understood By SQLite, "SQL Comment
 -- Syntax" and "Literal Values").
-use Rattle.std.specs.Prelude.{ℕ, zero, suc, ◌+◌, ◌-◌, ◌*◌, ◌^◌, ◌%◌, Bool, true, false, not, ◌&&◌, ◌||◌, if◌then◌else◌, ◌==◌, nat_lt, List, [], ◌∷◌, length, take, drop, map, Option, Some, None, Result, Ok, Err}
+use Rattle.std.specs.Prelude.{ℕ, zero, suc, ◌+◌, ◌-◌, ◌*◌, ◌^◌, ◌%◌, Bool, true, false, not, ◌&&◌, ◌||◌, if◌then◌else◌, ◌==◌, nat_lt, List, [], ◌∷◌, length, take, drop, Option, Some, None, Result, Ok, Err}
 use Rattle.std.specs.Char.{is_ascii_digit}
 use Rattle.std.specs.List.{prefix_len}
 use Rattle.std.specs.Str.{str_eq_ignore_ascii_case}
 use Rattle.sqlval.specs.declared.fault.Fault.{Fault}
 use Rattle.sqlval.specs.declared.fault.Fault.TheVariants.{Syntax, RealRefused, TooLong}
 use Rattle.sql_lexer.specs.Bytes.{is_space, begins_word, is_in}
+use Rattle.sql_lexer.specs.Words.{words}
 use Rattle.sql_lexer.specs.declared.class.Class.TheVariants as class
 use Rattle.sql_lexer.specs.declared.keyword.Keyword.{Keyword}
-use Rattle.sql_lexer.specs.declared.keyword.TheConstants.{KEYWORDS}
 use Rattle.sql_lexer.specs.declared.token.Kind.{Kind}
 use Rattle.sql_lexer.specs.declared.token.Kind.TheVariants as k
 use Rattle.sql_lexer.specs.declared.token.Token.{Token}
@@ -74,7 +74,7 @@ lookup (k ∷ ks) word = if str_eq_ignore_ascii_case k.0 word then Some k.1 else
 
 -- the reserved word that is spelled so
 unfoldable pub reserved : Text → Option Keyword
-reserved = lookup (map (λ k. (k.0.now, k.1)) KEYWORDS)
+reserved = lookup words
 
 abbrev pub word_kind : Option Keyword → Kind
 word_kind None = k.Name

@@ -6,6 +6,7 @@ ghost use Rattle.std.specs.Str.{str_eq_ignore_ascii_case};
 ghost use Rattle.sql_lexer.specs.declared.keyword.TheConstants.{KEYWORDS};
 ghost use Rattle.sql_lexer.specs.Lex as spec;
 ghost use Rattle.sql_lexer.specs.Lex.{Text};
+ghost use Rattle.sql_lexer.specs.Words.{words};
 
 /// A reserved word.
 #[derive(Clone, Copy, PartialEq, Eq)]
@@ -165,6 +166,11 @@ const STARTS: [usize; 27] = [
     72, 72, 72,
 ];
 
+/// The table has the reserved words, each as it is spelled.
+fn words_are_spelled()
+    ensures { map (λ k. (k.0.now, k.1)) KEYWORDS ≡ words }
+{}
+
 /// The number of a letter in the alphabet, from 0, whatever its case.
 fn letter_number(letter: u8) -> Option<usize>
     ensures { IfSome result (λ n. (n < 26) × (to_ascii_lowercase letter ≡ 97 + n)) }
@@ -222,6 +228,7 @@ fn is_same(a: &[u8], b: &[u8]) -> bool
 pub fn reserved(word: &[u8]) -> Option<Keyword>
     ensures { result ≡ spec.reserved word.now }
 {
+    words_are_spelled();
     match word {
         [first, ..] => {
             let (from, to) = span(*first);

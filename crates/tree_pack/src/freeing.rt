@@ -1,6 +1,6 @@
 //! Bytes of a page that become free: where its freeblocks lie, and what they say then.
 
-ghost use Rattle.std.specs.Prelude.{◌≡◌, ◌+◌, ◌≤◌, ℕ, [], ◌∷◌, ◌++◌, length, IfSome, IsTrue, None};
+ghost use Rattle.std.specs.Prelude.{◌≡◌, ◌+◌, ◌-◌, ◌≤◌, ℕ, [], ◌∷◌, ◌++◌, length, IfSome, IsTrue, None};
 ghost use Rattle.std.specs.Int.{w16, to_be_bytes};
 ghost use Rattle.tree_page.specs.Node.{Node, IsNode};
 ghost use Rattle.tree_pack.specs.Freeing as meant;
@@ -87,7 +87,9 @@ pub(crate) fn block_at(page: &[u8], at: u16) -> Option<Block> {
 
 /// The freeblock that the bytes up to an end become, with the next one where fewer than four bytes stand between; and how many do. None where that
 /// one begins before.
-fn joined(page: &[u8], next: u16, end: usize) -> Option<(Block, u8)> {
+fn joined(page: &[u8], next: u16, end: usize) -> Option<(Block, u8)>
+    ensures near { IfSome result (λ found. found.1 ≤ 3) }
+{
     let there = usize::from(next);
     if there == 0 || there.saturating_sub(end) >= 4 {
         return Some((Block { end, next }, 0));
@@ -97,7 +99,9 @@ fn joined(page: &[u8], next: u16, end: usize) -> Option<(Block, u8)> {
 }
 
 /// The freeblock's own bytes: where the next one begins, and its size.
-pub(crate) fn block_bytes(next: u16, size: u16) -> [u8; 4] {
+pub(crate) fn block_bytes(next: u16, size: u16) -> [u8; 4]
+    ensures { result ≡ to_be_bytes w16 next ++ to_be_bytes w16 size }
+{
     let [a, b] = next.to_be_bytes();
     let [c, d] = size.to_be_bytes();
     [a, b, c, d]
@@ -140,7 +144,8 @@ fn freed_first(page: &[u8], cell: CellPlace, free: Free) -> Option<Freed>
 
 /// The first bytes of a freeblock that begins where the cell does. None where the cell has fewer than four.
 fn own_block(cell: CellPlace, block: Block) -> Option<FreeblockHead>
-    ensures { IfSome result (IsOwn cell) }
+    ensures own { IfSome result (IsOwn cell) }
+    ensures bytes { IfSome result (λ head. head.bytes ≡ to_be_bytes w16 block.next ++ to_be_bytes w16 (block.end - cell.at)) }
 {
     if cell.end < cell.at || cell.end - cell.at < 4 {
         return None;

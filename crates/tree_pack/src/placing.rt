@@ -1,6 +1,7 @@
 //! Putting a cell into room on a page.
 
-ghost use Rattle.std.specs.Prelude.{◌≡◌, ◌≤◌, ◌<◌, ◌+◌, ◌*◌, ◌%◌, ◌/◌, ◌^◌, IfOk, IfErr, IfSome, length, slice_index_or};
+ghost use Rattle.std.specs.Prelude.{◌≡◌, ◌≤◌, ◌<◌, ◌+◌, ◌*◌, ◌%◌, ◌/◌, ◌^◌, IfOk, IfErr, IfSome, IsTrue, drop, length, slice_index_or, take};
+ghost use Rattle.std.specs.Int.{w16, to_be_bytes};
 ghost use Rattle.tree_page.specs.Node.{Node, IsNode};
 ghost use Rattle.tree_pack.specs.Placing.{Places, PlacesAt, HasRoom, IsRoomOn, Lies, least_in, placed_of, right_width};
 ghost use Rattle.tree_pack.specs.Slots.{IsSlot, IsSlotClear};
@@ -23,7 +24,9 @@ pub(crate) fn right_len(kind: Kind) -> usize
 }
 
 /// Whether this number stands in the two bytes at an offset.
-fn stands_at(page: &[u8], at: usize, number: u16) -> bool {
+fn stands_at(page: &[u8], at: usize, number: u16) -> bool
+    ensures stands { IsTrue result → take 2 (drop at page.now) ≡ to_be_bytes w16 number }
+{
     match page.get(at..) {
         Some(bytes) => bytes.starts_with(&number.to_be_bytes()),
         None => false,
@@ -96,7 +99,8 @@ struct Room {
 /// there then.
 fn gap_before(page: &[u8], start: usize, low: usize, size: usize) -> usize
     requires near { start ≤ length page.now }
-    ensures { result ≤ size }
+    ensures within { result ≤ size }
+    ensures clear { 0 < result → take 2 (drop (start + 5) page.now) ≡ to_be_bytes w16 (low % 65536) }
 {
     if stands_at(page, start + 5, (low % 65536) as u16) {
         size
@@ -154,6 +158,7 @@ fn find_slot(page: &[u8], start: usize, room: Room, size: u16) -> Option<Slot>
     ensures slot { IfSome result (IsSlot page.now size (room.pointers + 2 * room.count)) }
     ensures clear { (node : Node) (is : IsNode page.now start node) → Lies page.now start node is room.pointers room.count room.low
         → IfSome result (IsSlotClear is size) }
+    ensures content { IfSome result (λ slot. size ≤ room.gap → slot.free.content ≡ slot.at) }
 {
     let free = free_of(page, start)?;
     if usize::from(size) <= room.gap {

@@ -1,6 +1,7 @@
 //! Freeblocks that have room for a cell.
 
-ghost use Rattle.std.specs.Prelude.{◌≡◌, ◌+◌, ◌≤◌, length, IfSome, IsTrue};
+ghost use Rattle.std.specs.Prelude.{◌≡◌, ◌++◌, ◌+◌, ◌-◌, ◌≤◌, length, IfSome, IsTrue};
+ghost use Rattle.std.specs.Int.{w16, to_be_bytes};
 ghost use Rattle.tree_page.specs.Node.{Node, IsNode};
 ghost use Rattle.tree_pack.specs.Freeing.{AreClear, ArePointers};
 ghost use Rattle.tree_pack.specs.Slots.{IsHeadAt, IsHeadClear, IsHeadWithin, IsSlot, IsSlotAt, IsSlotClear};
@@ -92,7 +93,9 @@ fn passing_by(page: &[u8], start: usize, pointers: Pointers, block: Listed) -> O
 }
 
 /// What the header says with so many bytes of fragments more. None where a page may not have so many.
-fn with_fragments(free: Free, more: u16) -> Option<Free> {
+fn with_fragments(free: Free, more: u16) -> Option<Free>
+    ensures few { IfSome result (λ free. free.fragments ≤ 60) }
+{
     let fragments = free.fragments.checked_add(u8::try_from(more).ok()?)?;
     if fragments > 60 {
         return None;
@@ -135,7 +138,9 @@ fn unlisted(
 
 /// Where the cell comes when the freeblock keeps its beginning, up to the cell.
 fn shortened(block: Listed, at: u16, free: Free) -> Option<Slot>
-    ensures { IfSome result (IsSlotAt at (IsHeadAt block.at)) }
+    ensures slot { IfSome result (IsSlotAt at (IsHeadAt block.at)) }
+    ensures bytes { IfSome result (λ slot. IfSome slot.head (λ head.
+        head.bytes ≡ to_be_bytes w16 block.next ++ to_be_bytes w16 (at - block.at))) }
 {
     let size = at.checked_sub(block.at)?;
     Some(Slot {

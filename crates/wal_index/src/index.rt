@@ -42,6 +42,7 @@ impl Index {
         ensures same { SameFrames self.old self.new }
         ensures kept { KeepsRoom self.old self.new }
         ensures room { OnOk result (IsPageNumber page → 0 < room_for self.new page) }
+        ensures few { length self.old.lists.items ≤ 65536 → length self.new.lists.items ≤ 65536 }
     {
         if page == 0 || page > MAX_PAGES {
             return Ok(());

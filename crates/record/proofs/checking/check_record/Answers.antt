@@ -1,7 +1,8 @@
-use Rattle.std.proofs.Common.{rules, ◌≡◌, ◌∙◌, ap, sym, subst, Err, arith}
+use Rattle.std.proofs.Common.{rules, ◌≡◌, ◌∙◌, ap, sym, subst, Err, arith, length, All}
 use Rattle.std.proofs.lemmas.Result.{on_ok_weaker}
 use Rattle.record.specs.Reading.{fault_of, record_at}
-use Rattle.record.specs.Rows.{AreOfRow}
+use Rattle.record.specs.Rows.{AreOfRow, has_null_at}
+use Rattle.record.specs.Writing.{IsStorable}
 use Rattle.record.proofs.VarintLemmas.{AreBytes-from_index}
 use Rattle.record.proofs.RecordLemmas.{record_again, record_is}
 use Rattle.record.proofs.RowChecks.{halves_read, halves_wrong, no_both, one_wrong_alone, same_values}
@@ -47,3 +48,23 @@ pub returns-clause-why : goal.returns-clause-why
 returns-clause-why c = λ wrong is.
     (let found = c.in_ok-seen.ensures.found in
     absurd (no_both (record_at c.args.bytes.now) found.0 wrong (halves_read c.args.bytes.now c.in_ok-types.types.now c.in_ok-types.bodies.now c.in_ok-types.ensures ∙ found.1) is))
+
+pub returns-in_err-types-clause-first : goal.returns-in_err-types-clause-first
+returns-in_err-types-clause-first c = λ values is.
+    absurd (no_both (record_at c.args.bytes.now) values c.in_err-types.field-0.0 (record_again c.args.bytes.now values is) (halves_wrong c.args.bytes.now c.in_err-types.field-0.0 c.in_err-types.ensures))
+
+pub returns-in_err-seen-clause-first : goal.returns-in_err-seen-clause-first
+returns-in_err-seen-clause-first c = λ values is.
+    absurd (no_both (record_at c.args.bytes.now) values c.in_err-seen.field-0.0 (record_again c.args.bytes.now values is)
+    (halves_read c.args.bytes.now c.in_ok-types.types.now c.in_ok-types.bodies.now c.in_ok-types.ensures ∙ c.in_err-seen.ensures.why))
+
+pub returns-clause-first : goal.returns-clause-first
+returns-clause-first c = λ values is.
+    (let found = c.in_ok-seen.ensures.found in
+    let read = halves_read c.args.bytes.now c.in_ok-types.types.now c.in_ok-types.bodies.now c.in_ok-types.ensures ∙ found.1 in
+    let same = same_values (record_at c.args.bytes.now) found.0 values read (record_again c.args.bytes.now values is) in
+    record {
+      count = λ no. c.check_seen.ensures.count (λ e. no (sym (ap length same) ∙ (sym found.2 ∙ e)));
+      place = λ full null. c.check_seen.ensures.place (found.2 ∙ (ap length same ∙ full)) (found.3 ∙ (ap (has_null_at c.args.own) same ∙ null));
+      limit = λ full null long. c.check_seen.ensures.limit (found.2 ∙ (ap length same ∙ full)) (found.3 ∙ (ap (has_null_at c.args.own) same ∙ null)) (λ e. long (subst (λ vs. All IsStorable vs) same (found.4.0 e)));
+    })

@@ -19,7 +19,7 @@ returns-else-at-block-lt4-clause-slot c =
     let le = c.if-at-block.false in
     let four = c.if-at-block-lt4.false in
     let free = c.if-not-are_free.ensures in
-    shortened_slot c.args.page.now c.args.size c.args.pointers.last block.at at block.end (omega (arith, taken)) (free.behind refl) (free.within refl) (omega arith) (omega (arith, le, four)) c.shortened.result c.shortened.ensures
+    shortened_slot c.args.page.now c.args.size c.args.pointers.last block.at at block.end (omega (arith, taken)) (free.behind refl) (free.within refl) (omega arith) (omega (arith, le, four)) c.shortened.result c.shortened.ensures.slot
 
 pub returns-then-at-block-lt4-clause-clear : goal.returns-then-at-block-lt4-clause-clear
 returns-then-at-block-lt4-clause-clear c =
@@ -38,4 +38,4 @@ returns-else-at-block-lt4-clause-clear c =
     let taken = c.in_ok-at.ensures in
     let le = c.if-at-block.false in
     let four = c.if-at-block-lt4.false in
-    shortened_clear c.args.page.now c.args.start node is c.args.size block.at at block.end (omega (arith, taken)) (omega (arith, le)) (c.if-not-are_free.ensures.clear refl node is are) (omega (arith, le, four)) c.shortened.result c.shortened.ensures
+    shortened_clear c.args.page.now c.args.start node is c.args.size block.at at block.end (omega (arith, taken)) (omega (arith, le)) (c.if-not-are_free.ensures.clear refl node is are) (omega (arith, le, four)) c.shortened.result c.shortened.ensures.slot

@@ -70,4 +70,9 @@ returns-clause-follows c =
           subst (λ (f : File). Gains (cut_version c.args.len f) f (memory_file m)) same0
           (subst (Gains (cut_version c.args.len (memory_file m1)) (memory_file m1)) (sym same1)
           (cut_leaves m1.start.items m1.content.items call.new.content.items m1.changes.items call.new.changes.items c.args.len (not c.is_to_fail-ok.result) recorded)));
+      gone = λ come.
+          (let m1 = c.is_to_fail-ok.new.self in
+          let same0 : memory_file m1 ≡ memory_file old = ap memory_file c.is_to_fail-ok.ensures.same in
+          let same1 : memory_file m ≡ file_of m1.start.items call.new.changes.items = ap memory_file c.finish.ensures.same in
+          same1 ∙ (ap (file_of m1.start.items) (call.ensures.gone (c.is_gone-is_gone.ensures ∙ come)) ∙ same0));
     }

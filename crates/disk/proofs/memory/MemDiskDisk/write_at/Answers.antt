@@ -71,4 +71,9 @@ returns-clause-follows c =
           subst (λ (f : File). Gains (write_version c.args.at c.args.bytes.now f) f (memory_file m)) same0
           (subst (Gains (write_version c.args.at c.args.bytes.now (memory_file m1)) (memory_file m1)) (sym same1)
           (write_leaves m1.start.items m1.content.items call.new.content.items m1.changes.items call.new.changes.items c.args.at c.args.bytes.now (not c.is_to_fail-ok.result) recorded.0 recorded.1 recorded.2)));
+      gone = λ come.
+          (let m1 = c.is_to_fail-ok.new.self in
+          let same0 : memory_file m1 ≡ memory_file old = ap memory_file c.is_to_fail-ok.ensures.same in
+          let same1 : memory_file m ≡ file_of m1.start.items call.new.changes.items = ap memory_file c.finish.ensures.same in
+          same1 ∙ (ap (file_of m1.start.items) (call.ensures.gone (c.is_gone-is_gone.ensures ∙ come)) ∙ same0));
     }

@@ -14,6 +14,7 @@ pub lists-preserved : goal.lists-preserved
 lists-preserved c = record {
   same = λ p. maybe_pushed c.lists.self.lists.items c.push.new.self.items c.new.result (is_ok c.push.result) c.new.ensures.items c.push.ensures.items (p - 1) ∙ c.lists.invariant.same p;
   kept = λ p. omega (arith, c.lists.invariant.kept p, room_pushed c.lists.self.lists.items c.new.result (p - 1), ap (λ rows. room_at rows (p - 1)) c.in_ok-push.ensures.items);
+  few = λ h. omega (arith, c.lists-test.true, c.len.ensures, c.in_ok-push.ensures.len);
 }
 
 pub invariant_of-self-2 : goal.invariant_of-self-2
