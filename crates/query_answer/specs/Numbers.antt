@@ -1,19 +1,11 @@
--- Rows with their places, and the first of neighbours whose results tie.
-use Rattle.std.specs.Prelude.{ℕ, ◌+◌, ◌-◌, Bool, false, List, [], ◌∷◌, ◌++◌, length, if◌then◌else◌, Some, None, slice_get}
+-- The places of rows, and the first of neighbours whose results tie.
+use Rattle.std.specs.Prelude.{◌<◌, ◌≤◌, ℕ, ◌+◌, ◌-◌, Bool, false, List, [], ◌∷◌, ◌++◌, length, if◌then◌else◌, Option, Some, None, slice_get}
 use Rattle.std.specs.Ordering.{is_eq}
 use Rattle.std.specs.declared.cmp.Ordering.{Ordering}
+use Rattle.sqlval.specs.declared.value.Value.{Value}
 use Rattle.query_answer.specs.Sorting.{by_values}
-use Rattle.query_answer.specs.declared.distinct.Numbered.{Numbered}
 use Rattle.query_answer.specs.declared.results.FoundRow.{FoundRow}
 use Rattle.query_answer.specs.declared.sorting.SortOrder.{SortOrder}
-
-abbrev pub row_in : Numbered → FoundRow
-row_in n = n.row
-
--- each row with its place, from this place on
-abbrev pub numbered_from : ℕ → List FoundRow → List Numbered
-numbered_from n [] = []
-numbered_from n (r ∷ rs) = record { number = n; row = r } ∷ numbered_from (n + 1) rs
 
 -- how two rows stand by their results
 abbrev pub by_results : List SortOrder → FoundRow → FoundRow → Ordering
@@ -22,14 +14,31 @@ by_results orders r s = by_values orders r.results s.results
 abbrev pub have_same_results : List SortOrder → FoundRow → FoundRow → Bool
 have_same_results orders r s = is_eq (by_results orders r s)
 
--- whether the last of those kept has the results of a row
-abbrev pub last_ties : List SortOrder → List Numbered → Numbered → Bool
-last_ties orders kept x = elim (slice_get kept (length kept - 1)) [ None ↦ false | Some k ↦ have_same_results orders k.row x.row ]
+-- the results of a row, if there is one
+abbrev pub results_of : Option FoundRow → List Value
+results_of None = []
+results_of (Some r) = r.results
 
-abbrev pub kept_with : List SortOrder → List Numbered → Numbered → List Numbered
-kept_with orders kept x = if last_ties orders kept x then kept else (kept ++ x ∷ [])
+-- how the rows at two places stand by their results
+abbrev pub by_places : List SortOrder → List FoundRow → ℕ → ℕ → Ordering
+by_places orders rows i j = by_values orders (results_of (slice_get rows i)) (results_of (slice_get rows j))
+
+abbrev pub tie_at : List SortOrder → List FoundRow → ℕ → ℕ → Bool
+tie_at orders rows i j = is_eq (by_places orders rows i j)
+
+-- whether the row at the last of the places kept has the results of the row at this one
+abbrev pub last_ties : List SortOrder → List FoundRow → List ℕ → ℕ → Bool
+last_ties orders rows kept i = elim (slice_get kept (length kept - 1)) [ None ↦ false | Some k ↦ tie_at orders rows k i ]
+
+abbrev pub kept_with : List SortOrder → List FoundRow → List ℕ → ℕ → List ℕ
+kept_with orders rows kept i = if last_ties orders rows kept i then kept else (kept ++ i ∷ [])
 
 -- those kept before, and those of a list that don't tie with the one kept before them
-abbrev pub kept_after : List SortOrder → List Numbered → List Numbered → List Numbered
-kept_after orders kept [] = kept
-kept_after orders kept (x ∷ xs) = kept_after orders (kept_with orders kept x) xs
+abbrev pub kept_after : List SortOrder → List FoundRow → List ℕ → List ℕ → List ℕ
+kept_after orders rows kept [] = kept
+kept_after orders rows kept (i ∷ is) = kept_after orders rows (kept_with orders rows kept i) is
+
+-- places that rise, from one on and below another
+abbrev pub AreRisingPlaces : ℕ → ℕ → List ℕ → Type 0
+AreRisingPlaces low high [] = Unit {0}
+AreRisingPlaces low high (i ∷ is) = ((low ≤ i) × (i < high)) × AreRisingPlaces (i + 1) high is

@@ -1,115 +1,113 @@
 //! Rows without those that equal an earlier one.
 
-ghost use Rattle.std.specs.Prelude.{◌≡◌, [], IfErr, IfOk, OnOk, length, map};
+ghost use Rattle.std.specs.Prelude.{◌≡◌, [], IfErr, IfOk, OnOk, Some, length, map, slice_get};
+ghost use Rattle.std.specs.List.{range_with_len};
 ghost use Rattle.std.specs.Ordering.{nat_cmp};
 ghost use Rattle.sqlval.specs.Lists.{distinct, sorted};
-ghost use Rattle.query_answer.specs.Numbers.{by_results, have_same_results, kept_after, kept_with, last_ties, numbered_from, row_in};
+ghost use Rattle.query_answer.specs.Numbers.{AreRisingPlaces, by_places, have_same_results, kept_after, kept_with, last_ties, results_of, tie_at};
 
+use crate::lookups::each_place;
 use crate::results::FoundRow;
 use crate::sorting::{SortOrder, compare_values};
-use sqlval::{Fault, R};
+use sqlval::{Fault, R, Value};
 use std::alloc::Global;
+use std::cmp::Ordering;
 
-/// A row, and its place among all.
-#[derive(Drop)]
-pub struct Numbered {
-    pub number: usize,
-    pub row: FoundRow,
-}
-
-/// How many there are.
-fn count_of(rows: &Vec<Numbered>) -> usize
-    ensures { result ≡ length rows.now.items }
+/// The results of the row at a place, none past the last.
+fn results_at(rows: &[FoundRow], place: usize) -> &[Value]
+    ensures { result.now ≡ results_of (slice_get rows.entry.now place) }
 {
-    rows.len()
-}
-
-/// The rows with their places.
-fn with_numbers(alloc: Global, found: Vec<FoundRow>) -> R<Vec<Numbered>>
-    ensures numbers { IfOk result (λ rows. rows.items ≡ numbered_from 0 found.items) }
-    ensures refused { IfErr result (λ fault. fault ≡ Fault.Memory) }
-{
-    let mut rows = Vec::with_capacity(alloc, found.len())?;
-    'rows: for row in found {
-        let number = count_of(&rows);
-        rows.push(Numbered { number, row })?;
+    match rows.get(place) {
+        Some(row) => row.results.as_slice(),
+        None => &[],
     }
-    Ok(rows)
 }
 
-/// The rows without their places.
-fn rows_alone(alloc: Global, numbered: Vec<Numbered>) -> R<Vec<FoundRow>>
-    ensures rows { IfOk result (λ rows. rows.items ≡ map row_in numbered.items) }
-    ensures refused { IfErr result (λ fault. fault ≡ Fault.Memory) }
+/// How the rows at two places stand by their results.
+fn compare_places(rows: &[FoundRow], orders: &[SortOrder], first: usize, second: usize) -> Ordering
+    ensures { result ≡ by_places orders.now rows.now first second }
 {
-    let mut rows = Vec::with_capacity(alloc, numbered.len())?;
-    'rows: for item in numbered {
-        rows.push(item.row)?;
-    }
-    Ok(rows)
+    compare_values(orders, results_at(rows, first), results_at(rows, second))
 }
 
-/// Sorts rows by their results; those that tie stay as they stand.
-fn sort_by_results(rows: &mut Vec<Numbered>, orders: &[SortOrder]) -> R<()>
-    ensures sorted { OnOk result
-        (rows.new.items ≡ sorted (λ r s. by_results orders.now r.row s.row) rows.old.items) }
+/// Sorts places by the results of their rows; those that tie stay as they stand.
+fn sort_by_results(places: &mut Vec<usize>, rows: &[FoundRow], orders: &[SortOrder]) -> R<()>
+    ensures sorted { OnOk result (places.new.items ≡ sorted (by_places orders.now rows.now) places.old.items) }
     ensures refused { IfErr result (λ fault. fault ≡ Fault.Memory) }
 {
-    rows.sort_by(|a, b| compare_values(
-        orders,
-        a.row.results.as_slice(),
-        b.row.results.as_slice(),
-    ))?;
+    places.sort_by(|a, b| compare_places(rows, orders, *a, *b))?;
     Ok(())
 }
 
-/// Sorts rows by their places.
-fn sort_by_number(rows: &mut Vec<Numbered>) -> R<()>
-    ensures sorted { OnOk result (rows.new.items ≡ sorted (λ r s. nat_cmp r.number s.number) rows.old.items) }
+/// Sorts places, so that they rise.
+fn sort_rising(places: &mut Vec<usize>) -> R<()>
+    ensures sorted { OnOk result (places.new.items ≡ sorted nat_cmp places.old.items) }
     ensures refused { IfErr result (λ fault. fault ≡ Fault.Memory) }
 {
-    rows.sort_by(|a, b| a.number.cmp(&b.number))?;
+    places.sort_by(|a, b| a.cmp(b))?;
     Ok(())
 }
 
-/// Whether the last of those kept has the results of a row.
-fn is_kept(orders: &[SortOrder], kept: &[Numbered], item: &Numbered) -> bool
-    ensures { result ≡ last_ties orders.now kept.now item.now }
+/// Whether the row at the last of the places kept has the results of the row at this one.
+fn is_kept(rows: &[FoundRow], orders: &[SortOrder], kept: &[usize], place: usize) -> bool
+    ensures { result ≡ last_ties orders.now rows.now kept.now place }
 {
     match kept.last() {
-        Some(last) => has_same_results(orders, &last.row, &item.row),
+        Some(last) => compare_places(rows, orders, *last, place).is_eq(),
         None => false,
     }
 }
 
-/// Whether two rows have the same results.
-fn has_same_results(orders: &[SortOrder], a: &FoundRow, b: &FoundRow) -> bool
-    ensures { result ≡ have_same_results orders.now a.now b.now }
-{
-    compare_values(orders, a.results.as_slice(), b.results.as_slice()).is_eq()
-}
-
-/// Keeps a row, unless the last of those kept has its results.
-fn keep(kept: &mut Vec<Numbered>, orders: &[SortOrder], item: Numbered) -> R<()>
-    ensures kept { OnOk result (kept.new.items ≡ kept_with orders.now kept.old.items item) }
+/// Keeps a place, unless the last of those kept has its row's results.
+fn keep(kept: &mut Vec<usize>, rows: &[FoundRow], orders: &[SortOrder], place: usize) -> R<()>
+    ensures kept { OnOk result (kept.new.items ≡ kept_with orders.now rows.now kept.old.items place) }
     ensures refused { IfErr result (λ fault. fault ≡ Fault.Memory) }
 {
-    if !is_kept(orders, kept.as_slice(), &item) {
-        kept.push(item)?;
+    if !is_kept(rows, orders, kept.as_slice(), place) {
+        kept.push(place)?;
     }
     Ok(())
 }
 
-/// The first of neighbours with the same results.
-fn firsts(alloc: Global, rows: Vec<Numbered>, orders: &[SortOrder]) -> R<Vec<Numbered>>
-    ensures kept { IfOk result (λ kept. kept.items ≡ kept_after orders.now [] rows.items) }
+/// The first of neighbours whose rows have the same results.
+fn firsts(
+    alloc: Global,
+    places: Vec<usize>,
+    rows: &[FoundRow],
+    orders: &[SortOrder],
+) -> R<Vec<usize>>
+    ensures kept { IfOk result (λ kept. kept.items ≡ kept_after orders.now rows.now [] places.items) }
     ensures refused { IfErr result (λ fault. fault ≡ Fault.Memory) }
 {
     let mut kept = Vec::new(alloc);
-    'rows: for item in rows {
-        keep(&mut kept, orders, item)?;
+    'places: for place in places {
+        keep(&mut kept, rows, orders, place)?;
     }
     Ok(kept)
+}
+
+/// The places of the rows whose results equal no earlier one's.
+fn distinct_places(alloc: Global, rows: &[FoundRow], orders: &[SortOrder]) -> R<Vec<usize>>
+    ensures distinct { IfOk result (λ places. places.items
+        ≡ distinct (tie_at orders.now rows.now) (range_with_len 0 (length rows.now))) }
+    ensures refused { IfErr result (λ fault. fault ≡ Fault.Memory) }
+{
+    let mut places = each_place(alloc, rows.len())?;
+    sort_by_results(&mut places, rows, orders)?;
+    let mut kept = firsts(alloc, places, rows, orders)?;
+    sort_rising(&mut kept)?;
+    Ok(kept)
+}
+
+/// Takes the rows at rising places to the front, and lets go of the others.
+fn keep_rows(rows: &mut Vec<FoundRow>, places: &[usize])
+    requires { AreRisingPlaces 0 (length rows.old.items) places.now }
+    ensures { map Some rows.new.items ≡ map (slice_get rows.old.items) places.now }
+{
+    'places: for index in 0..places.len() {
+        rows.swap(index, places[index]);
+    }
+    rows.truncate(places.len());
 }
 
 /// The rows without those whose results equal an earlier one's.
@@ -117,9 +115,8 @@ pub fn distinct_rows(alloc: Global, found: Vec<FoundRow>, orders: &[SortOrder]) 
     ensures distinct { IfOk result (λ rows. rows.items ≡ distinct (have_same_results orders.now) found.items) }
     ensures refused { IfErr result (λ fault. fault ≡ Fault.Memory) }
 {
-    let mut rows = with_numbers(alloc, found)?;
-    sort_by_results(&mut rows, orders)?;
-    let mut kept = firsts(alloc, rows, orders)?;
-    sort_by_number(&mut kept)?;
-    rows_alone(alloc, kept)
+    let mut rows = found;
+    let places = distinct_places(alloc, rows.as_slice(), orders)?;
+    keep_rows(&mut rows, places.as_slice());
+    Ok(rows)
 }

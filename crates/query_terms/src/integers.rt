@@ -127,6 +127,9 @@ pub fn integer_holds(term: &Term, env: &Env<'_>) -> Option<bool>
 pub fn evaluate<'a>(alloc: Global, term: &'a Term, env: Env<'a>) -> R<Datum<'a>>
     ensures { AnswersBy datum (meant.value term.now (seen env.entry)) result }
 {
+    if let Node::Cell(source, place, _, _) = &term.node {
+        return Ok(Datum::Lent(env.cell(*source, *place)));
+    }
     if let Some(number) = integer(term, &env) {
         return Ok(Datum::Lent(Field::Int(number)));
     }

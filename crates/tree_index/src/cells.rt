@@ -86,7 +86,7 @@ fn child_at(page: &TreePage<'_>, place: usize) -> R<Option<u32>>
 }
 
 /// The child at a place of a page of these bytes, or None on a leaf. (`Damaged` for one that is no page of an index.)
-fn child_in(bytes: &[u8], number: u32, place: usize) -> R<Option<u32>>
+pub(crate) fn child_in(bytes: &[u8], number: u32, place: usize) -> R<Option<u32>>
     ensures only { (node : Node) → IsNode bytes.now (counting.start_of number) node → IsOfIndex node
         → result ≡ Ok (child_for place node) }
     ensures not_disk { IfErr result IsNotDiskFault }

@@ -9,7 +9,7 @@ ghost use Rattle.tree_index.specs.Comparing.{FindsPlace};
 ghost use Rattle.tree_index.specs.Entries.{is_passed};
 ghost use Rattle.tree_index.specs.Growing.{FindsEqual, StepsFrom};
 
-use crate::cells::{at_page, child_of, len_of, most_in, start_of};
+use crate::cells::{at_page, child_in, child_of, len_of, most_in, start_of};
 use crate::comparing::{Key, order, order_on};
 use pages::Pages;
 use sqlval::R;
@@ -138,8 +138,60 @@ fn is_equal_at<P: Pages>(
     Ok(order(pages, number, place, key, scratch)?.is_eq())
 }
 
-/// Where the way to an entry goes on from a page. (What `place_of`, `is_equal_at` and `child_of` refuse.)
-pub(crate) fn step_from<P: Pages>(
+/// Whether the entry at a place of the page of these bytes equals the key; None as for `place_in`. (As `len_of` and `order_on` refuse it.)
+fn is_equal_in(
+    bytes: &[u8],
+    number: u32,
+    place: usize,
+    most: usize,
+    key: Key<'_>,
+) -> Option<R<bool>>
+    ensures found { IfSome result (λ found. (pages : PageMap) (size : ℕ)
+        → bytes.now ≡ page_at pages number → most ≡ index_most size
+        → FindsEqual pages size number place key.entry.columns.now key.entry.values.now found) }
+    ensures not_disk { IfSome result (λ found. IfErr found IsNotDiskFault) }
+{
+    let page = match TreePage::over(bytes, start_of(number)) {
+        Ok(page) => page,
+        Err(fault) => return Some(Err(at_page(fault, number))),
+    };
+    if place >= page.len() {
+        return Some(Ok(false));
+    }
+    match order_on(&page, place, most, key)? {
+        Ok(order) => Some(Ok(order.is_eq())),
+        Err(fault) => Some(Err(at_page(fault, number))),
+    }
+}
+
+/// Where the way to an entry goes on from the page of these bytes; None as for `place_in`. (What `place_in`, `is_equal_in` and `child_in` refuse.)
+fn step_in(bytes: &[u8], number: u32, most: usize, key: Key<'_>) -> Option<R<Step>>
+    ensures found { IfSome result (λ found. (pages : PageMap) (size : ℕ)
+        → bytes.now ≡ page_at pages number → most ≡ index_most size
+        → StepsFrom pages size number key.entry.columns.now key.entry.values.now found) }
+    ensures not_disk { IfSome result (λ found. IfErr found IsNotDiskFault) }
+{
+    let place = match place_in(bytes, number, most, key, false)? {
+        Ok(place) => place,
+        Err(fault) => return Some(Err(fault)),
+    };
+    let is_found = match is_equal_in(bytes, number, place, most, key)? {
+        Ok(is_found) => is_found,
+        Err(fault) => return Some(Err(fault)),
+    };
+    if is_found {
+        return Some(Ok(Step::Found(place)));
+    }
+    match child_in(bytes, number, place) {
+        Ok(Some(child)) => Some(Ok(Step::Down(place, child))),
+        Ok(None) => Some(Ok(Step::Here(place))),
+        Err(fault) => Some(Err(at_page(fault, number))),
+    }
+}
+
+/// Where the way to an entry goes on from a page, where overflow pages may be read on the way. (What `place_of`, `is_equal_at` and `child_of`
+/// refuse.)
+fn step_over_chains<P: Pages>(
     pages: &mut P,
     number: u32,
     key: Key<'_>,
@@ -158,4 +210,25 @@ pub(crate) fn step_from<P: Pages>(
         Some(child) => Ok(Step::Down(place, child)),
         None => Ok(Step::Here(place)),
     }
+}
+
+/// Where the way to an entry goes on from a page: told by the page as it was loaded, unless an entry on the way goes on in overflow pages. (What
+/// `load` and `step_over_chains` refuse.)
+pub(crate) fn step_from<P: Pages>(
+    pages: &mut P,
+    number: u32,
+    key: Key<'_>,
+    scratch: &mut Vec<u8>,
+) -> R<Step>
+    ensures found { IsTrue (P.Pages.tells (P.Pages.below pages.old))
+        → StepsFrom (P.Pages.map pages.old) (P.Pages.limits (P.Pages.below pages.old)).page number
+        key.entry.columns.now key.entry.values.now result }
+    ensures stays { Stays P.Pages.below P.Pages.map P.Pages.count P.Pages.failures result pages.old pages.new }
+{
+    pages.load(number)?;
+    let most = most_in(pages.page_size());
+    if let Some(found) = step_in(pages.loaded(), number, most, key) {
+        return found;
+    }
+    step_over_chains(pages, number, key, scratch)
 }

@@ -80,6 +80,34 @@ fn read_local(usable: u64, most: u64, size: u64, bytes: &[u8]) -> Option<(Local<
     Some((Local { size, bytes }, rest))
 }
 
+/// How many bytes of an index page's cell are for a payload: a short one lies there whole, without asking how long it may be.
+#[inline(always)]
+fn held_entry(usable: u64, size: u64) -> u64
+    requires { usable < 2 ^ 63 }
+    ensures { result ≡ held_size usable (index_most usable) size }
+{
+    if size <= 105 && 522 <= usable {
+        return size;
+    }
+    held_len(usable, index_limit(usable), size)
+}
+
+/// What a cell of an index page has of a payload, and the bytes after it; None if they end before.
+#[inline(always)]
+#[tactic(auto, unfolding(crate::specs::Bytes::leading_local))]
+fn read_payload(usable: u64, size: u64, bytes: &[u8]) -> Option<(Local<'_>, &[u8])>
+    requires { usable < 2 ^ 63 }
+    ensures { option_map (λ found. (local_of found.0, found.1.now)) result
+        ≡ leading_local usable (index_most usable) size bytes.now }
+{
+    let held = held_entry(usable, size);
+    if (bytes.len() as u64) < held {
+        return None;
+    }
+    let (bytes, rest) = bytes.split_at(held as usize);
+    Some((Local { size, bytes }, rest))
+}
+
 /// A row, and the bytes after its cell; None if they end before.
 #[inline(always)]
 #[tactic(auto, unfolding(crate::specs::Bytes::leading_row))]
@@ -122,7 +150,7 @@ fn read_entry(usable: u64, bytes: &[u8]) -> Option<(Local<'_>, &[u8])>
     ensures { option_map (λ found. (local_of found.0, found.1.now)) result ≡ leading_entry usable bytes.now }
 {
     let (size, rest) = get_varint(bytes)?;
-    read_local(usable, index_limit(usable), size, rest)
+    read_payload(usable, size, rest)
 }
 
 /// A child and the entry after it, and the bytes after their cell; None if they end before.

@@ -31,10 +31,8 @@ pub fn skip(bytes: &[u8], offset: usize) -> Option<&[u8]>
 fn read_pair(bytes: &[u8]) -> Option<u16>
     ensures { result ≡ leading_pair bytes.now }
 {
-    let [high, low, ..] = bytes else {
-        return None;
-    };
-    Some(u16::from_be_bytes([*high, *low]))
+    let (number, _) = bytes.split_first_chunk::<2>()?;
+    Some(u16::from_be_bytes(*number))
 }
 
 /// The page number in the first four bytes, big-endian, and the bytes after it.
@@ -42,10 +40,8 @@ fn read_pair(bytes: &[u8]) -> Option<u16>
 pub fn read_page(bytes: &[u8]) -> Option<(u32, &[u8])>
     ensures { option_map (λ found. (found.0, found.1.now)) result ≡ leading_child bytes.now }
 {
-    let [a, b, c, d, rest @ ..] = bytes else {
-        return None;
-    };
-    Some((u32::from_be_bytes([*a, *b, *c, *d]), rest))
+    let (number, rest) = bytes.split_first_chunk::<4>()?;
+    Some((u32::from_be_bytes(*number), rest))
 }
 
 /// The kind of a page of this type; None if trees have no such pages.

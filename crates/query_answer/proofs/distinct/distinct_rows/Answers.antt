@@ -1,11 +1,12 @@
-use Rattle.std.proofs.Common.{◌≡◌, subst}
-use Rattle.std.specs.Prelude.{IfOk}
-use Rattle.query_answer.proofs.Places.{told_apart}
+use Rattle.query_answer.proofs.Places.{places_rise, rows_told_apart, seen_apart}
 use Rattle.query_answer.proofs.distinct.distinct_rows.Goals as goal
+
+pub keep_rows-requires : goal.keep_rows-requires
+keep_rows-requires c =
+    places_rise c.args.orders.now c.args.found.items c.as_slice-2.result.now
+    (seen_apart c.args.orders.now c.args.found.items c.as_slice.result.now c.in_ok-places.places.items c.as_slice-2.result.now c.as_slice-2.ensures.value c.in_ok-places.ensures.distinct c.as_slice.ensures.value)
 
 pub returns-clause-distinct : goal.returns-clause-distinct
 returns-clause-distinct c =
-    subst (λ found. IfOk c.rows_alone.result (λ rows. rows.items ≡ found))
-    (told_apart c.args.orders.now c.args.found.items c.in_ok-rows.rows.items c.sort_by_results.new.rows.items c.in_ok-kept.kept.items c.sort_by_number.new.rows.items
-    c.in_ok-rows.ensures.numbers c.in_ok-sort_by_results.ensures.sorted c.in_ok-kept.ensures.kept c.in_ok-sort_by_number.ensures.sorted)
-    c.rows_alone.ensures.rows
+    rows_told_apart c.args.orders.now c.args.found.items c.keep_rows.new.rows.items c.as_slice-2.result.now
+    (seen_apart c.args.orders.now c.args.found.items c.as_slice.result.now c.in_ok-places.places.items c.as_slice-2.result.now c.as_slice-2.ensures.value c.in_ok-places.ensures.distinct c.as_slice.ensures.value) c.keep_rows.ensures

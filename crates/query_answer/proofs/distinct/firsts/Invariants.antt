@@ -1,7 +1,7 @@
--- those kept are those of the rows so far
+-- those kept are those of the places so far
 use Rattle.std.proofs.Common.{◌≡◌, []}
 use Rattle.query_answer.specs.Numbers.{kept_after}
 use Rattle.query_answer.proofs.distinct.firsts.Given as goal
 
-abbrev pub invariant-rows : goal.invariant-rows
-invariant-rows l = l.kept.items ≡ kept_after l.orders [] l.yielded
+abbrev pub invariant-places : goal.invariant-places
+invariant-places l = l.kept.items ≡ kept_after l.orders l.rows [] l.yielded

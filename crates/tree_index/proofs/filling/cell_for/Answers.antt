@@ -1,4 +1,4 @@
-use Rattle.std.proofs.Common.{◌≡◌, ◌∙◌, ℕ, List, length, ap, sym, subst}
+use Rattle.std.proofs.Common.{rules, ◌≡◌, ◌∙◌, ℕ, List, length, ap, sym, subst}
 use Rattle.std.specs.Prelude.{IfOk}
 use Rattle.record.specs.Record.{IsRecord}
 use Rattle.tree_page.specs.Node.{IsEntryCell}
@@ -27,3 +27,8 @@ returns-clause-made g c = λ told free free_are sized.
     let cell = subst (λ (bytes : List ℕ). IfOk c.entry_cell.result (λ cell. IsEntryCell size cell.items (record { size = length payload; bytes = bytes }))) value
     (c.entry_cell.ensures.is size (ap length value ∙ long)) in
     one_cell_or old mid size entry payload held free c.entry_cell.result record_is w cell c.entry_cell.ensures.refused)
+
+pub returns-clause-causes : goal.returns-clause-causes
+returns-clause-causes g c =
+    let was = c.in_ok-held.ensures.causes in
+    record { db = was.db; log = was.log; why = search rules }
