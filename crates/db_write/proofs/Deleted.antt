@@ -1,7 +1,6 @@
 -- What deleting rows with their entries comes to.
 use Rattle.std.proofs.Common.{◌≡◌, inl, inr, refl, sym, ap, subst, ℕ, Bool, true, not, filter, List, [], ◌∷◌, ◌++◌, length, map, Option, Some, None, Ok, Err}
 use Rattle.std.specs.Prelude.{Result, IsErrAnd, MatchResult, ⊤}
-use Rattle.std.specs.Global.{Vec}
 use Rattle.sqlval.specs.Faults.{IsOutside}
 use Rattle.sqlval.specs.PageSizes.{IsPageSize}
 use Rattle.sqlval.specs.Refusals.{Answer, Refusal, ◌then◌, all_answers, refusal_of}
@@ -14,7 +13,6 @@ use Rattle.db_layout.specs.Layout.{Owner}
 use Rattle.catalog.specs.Listed.{shape_of, with_rows}
 use Rattle.catalog.specs.Rows.{are_rows}
 use Rattle.catalog.specs.declared.tables.Table.{Table}
-use Rattle.catalog.specs.declared.tables.TableRow as stored
 use Rattle.query_names.specs.declared.queries.BoundSource.{BoundSource}
 use Rattle.query_terms.specs.Outcome.{IsRefusedBy}
 use Rattle.query_terms.specs.Terms.{Term}
@@ -25,12 +23,10 @@ use Rattle.row_change.specs.Meaning.{AreEnough}
 use Rattle.row_change.specs.Taking.{AreTakenOut, IsTakeRefusal, TakesRows, TakesThese}
 use Rattle.row_change.proofs.Taken.{fit_still}
 use Rattle.index_entries.specs.Entries.{AreApart}
-use Rattle.index_entries.specs.Keeping.{row_in}
 use Rattle.db_write.specs.Changing.{AreDeleted, DeletesInTrees, HoldsFitRows, IsRefusedDelete}
 use Rattle.db_write.specs.Reading.{LoadsEnough}
 use Rattle.db_write.specs.Turning.{ClearsIndexes, HaveEntries, HaveNow, TakesFromIndexes}
 use Rattle.db_write.proofs.Among.{rows_tree}
-use Rattle.db_write.proofs.Needed.{MeansRows}
 use Rattle.db_write.proofs.Owned.{RowsStand, fit_apart, indexes_stand, rows_among, same_entries, table_holds}
 use Rattle.db_write.proofs.Shuffling.{parted, shuffled_apart, shuffled_entries}
 use Rattle.db_write.proofs.Sides.{no_index}
@@ -89,6 +85,10 @@ not_filtered : (p q : TableRow → Bool) (rows : List TableRow) (r : Refusal) (a
 not_filtered p q rows r (Ok tests) e = absurd (no_rows r (filter p rows) e)
 not_filtered p q rows r (Err s) e = ap (λ (x : Refusal). Err x) (same_refusal s r e)
 
+-- these are the rows for which a condition is true, of rows of which some were read
+abbrev pub AreMeant : Term → List Row → List TableRow → Type 0
+AreMeant c found gone = (rows : List TableRow) → AreEnough (Some c) found rows → chosen c rows ≡ Ok gone
+
 module _ (old mid : PageMap) (size : ℕ) (table : Table) (c : Term) where
   abbrev reading : BoundSource
   reading = record { root = table.root; shape = shape_of table }
@@ -100,18 +100,18 @@ module _ (old mid : PageMap) (size : ℕ) (table : Table) (c : Term) where
       inl (inl (subst IsOutside (sym same) (loads schema before after rows sized is_root among fit)))
 
   module _ (found : List Row) (loads : LoadsEnough old size table (Some c) (Ok found)) where
-    -- the rows that go aren't copied
-    pub none_copied : (fault : Fault) (result : Result ⊤ Fault) → IsErrAnd result (λ e. e ≡ fault) → MeansRows (Some c) found (Err fault) → DeletesInTrees old mid size table (Some c) result
-    none_copied fault (Ok done) same means = absurd same
-    none_copied fault (Err e) same means = λ schema before after rows sized is_root among fit.
+    -- the rows that go aren't found
+    pub none_meant : (fault : Fault) (result : Result ⊤ Fault) → IsErrAnd result (λ e. e ≡ fault) → ((rows : List TableRow) → AreEnough (Some c) found rows → IsRefusedBy (chosen c rows) fault) → DeletesInTrees old mid size table (Some c) result
+    none_meant fault (Ok done) same means = absurd same
+    none_meant fault (Err e) same means = λ schema before after rows sized is_root among fit.
         subst (λ (f : Fault). IsRefusedDelete c rows f) (sym same) (by rows (means rows (loads schema before after rows sized is_root among fit)))
       where
         by : (rows : List TableRow) → IsRefusedBy (chosen c rows) fault → IsRefusedDelete c rows fault
         by rows (inl memory) = inl (inl (inl memory))
         by rows (inr e) = inr (not_filtered (is_chosen c) (stays c) rows (refusal_of fault) (all_answers (map (tested c) rows)) e)
 
-    -- those that were copied are taken, which are the rows for which the condition is true
-    pub these_taken : (gone : Vec stored.TableRow) (result : Result ⊤ Fault) → MeansRows (Some c) found (Ok gone) → TakesThese old mid size reading (map row_in gone.items) result → TakesRows old mid size reading c found result
+    -- those that were found are taken, which are the rows for which the condition is true
+    pub these_taken : (gone : List TableRow) (result : Result ⊤ Fault) → AreMeant c found gone → TakesThese old mid size reading gone result → TakesRows old mid size reading c found result
     these_taken gone result means takes rows entries used free is each enough = by result (takes c rows entries used free is each (means rows enough))
       where
         by : (r : Result ⊤ Fault) → MatchResult r (λ done. AreTakenOut old mid size reading c rows used free) IsOutsideOrFull → MatchResult r (λ done. AreTakenOut old mid size reading c rows used free) (IsTakeRefusal c rows)
@@ -157,10 +157,10 @@ module _ (old mid : PageMap) (size : ℕ) (table : Table) (c : Term) where
       bare_done sized is_root bare = done_as mid (Ok tt) (no_index mid size schema Before table.indexes rows taken.left after sized is_root bare stand)
 
       -- of a table with indexes
-      gone_is : (gone : Vec stored.TableRow) → MeansRows (Some c) found (Ok gone) → filter (is_chosen c) rows ≡ map row_in gone.items
-      gone_is gone means = filtered (is_chosen c) rows (map row_in gone.items) (all_answers (map (tested c) rows)) (means rows enough)
+      gone_is : (gone : List TableRow) → AreMeant c found gone → filter (is_chosen c) rows ≡ gone
+      gone_is gone means = filtered (is_chosen c) rows gone (all_answers (map (tested c) rows)) (means rows enough)
 
-      indexed_done : IsPageSize size → schema.root ≡ 1 → (new : PageMap) (gone : Vec stored.TableRow) (result : Result ⊤ Fault) → MeansRows (Some c) found (Ok gone) → TakesFromIndexes mid new size table.indexes (map row_in gone.items) result
+      indexed_done : IsPageSize size → schema.root ≡ 1 → (new : PageMap) (gone : List TableRow) (result : Result ⊤ Fault) → AreMeant c found gone → TakesFromIndexes mid new size table.indexes gone result
           → MatchResult result (λ done. AreDeleted old new size schema before table c rows after) (IsRefusedDelete c rows)
       indexed_done sized is_root new gone result means more =
           done_as new result (subst (λ (l : List TableRow). MatchResult result (λ done. HaveNow mid new size schema Before table.indexes l after) IsOutsideOrFull) left_is
@@ -179,8 +179,8 @@ module _ (old mid : PageMap) (size : ℕ) (table : Table) (c : Term) where
         bare_done takes schema before after rows s (loads schema before after rows sized is_root among fit) fit sized is_root bare)
     bare_taken bare (Err f) takes = none_taken f (Err f) refl takes
 
-    pub indexed_taken : (new : PageMap) (gone : Vec stored.TableRow) (result : Result ⊤ Fault) → MeansRows (Some c) found (Ok gone) → TakesRows old mid size reading c found (Ok tt)
-        → TakesFromIndexes mid new size table.indexes (map row_in gone.items) result → DeletesInTrees old new size table (Some c) result
+    pub indexed_taken : (new : PageMap) (gone : List TableRow) (result : Result ⊤ Fault) → AreMeant c found gone → TakesRows old mid size reading c found (Ok tt)
+        → TakesFromIndexes mid new size table.indexes gone result → DeletesInTrees old new size table (Some c) result
     indexed_taken new gone result means takes more schema before after rows sized is_root among fit =
         let s = rows_among old size schema before table rows after among sized is_root in
         indexed_done takes schema before after rows s (loads schema before after rows sized is_root among fit) fit sized is_root new gone result means more

@@ -15,13 +15,14 @@ use Rattle.tree_page.specs.Cells.{Pairwise}
 use Rattle.tree_index.specs.Tree.{IsIndexTree}
 use Rattle.db_layout.specs.Layout.{HoldsUnder, IsTree, Owner}
 use Rattle.catalog.specs.Listed.{as_column, own_column, shape_of, with_rows}
-use Rattle.catalog.specs.Rows.{are_rows, holds_rowid, is_row, is_value}
+use Rattle.catalog.specs.Rows.{are_rows, as_row, holds_rowid, is_row, is_value}
 use Rattle.catalog.specs.declared.tables.Index.{Index}
 use Rattle.catalog.specs.declared.tables.Table.{Table}
 use Rattle.catalog.specs.declared.tables.TableRow as stored
 use Rattle.query_names.specs.Readings.{holds}
 use Rattle.query_names.specs.declared.queries.BoundSource.{BoundSource}
 use Rattle.query_terms.specs.Outcome.{AnswersBy}
+use Rattle.query_terms.specs.Rows.{row_at}
 use Rattle.query_terms.specs.Terms.{Term}
 use Rattle.query_terms.specs.Values.{Row}
 use Rattle.query_plan.specs.Searching.{IsUntrue, OtherRowsFail, is_found}
@@ -46,6 +47,11 @@ same_source table read root_is shape_is = λ i. record { root = root_is i; shape
 -- of rows that are enough for a condition those that it means were answered
 abbrev pub MeansRows : Option Term → List Row → Result (Vec stored.TableRow) Fault → Type 0
 MeansRows condition found result = (all : List TableRow) → AreEnough condition found all → AnswersBy (λ them. map row_of them.items) (chosen_or_all condition all) result
+
+-- the places of the rows that a condition means, or why there are none
+abbrev pub MeansPlaces : Option Term → List Row → Result (Vec ℕ) Fault → Type 0
+MeansPlaces condition found result = (all : List TableRow) → AreEnough condition found all
+    → AnswersBy (λ places. map (λ place. as_row (row_at found place)) places.items) (chosen_or_all condition all) result
 
 -- ---- rows that are left out
 

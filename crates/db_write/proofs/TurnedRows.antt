@@ -11,7 +11,7 @@ use Rattle.pages.specs.Calls.{IsOutsideOrFull}
 use Rattle.pages.specs.Map.{PageMap}
 use Rattle.db_layout.specs.Layout.{Owner}
 use Rattle.catalog.specs.Listed.{with_rows}
-use Rattle.catalog.specs.Rows.{are_rows}
+use Rattle.catalog.specs.Rows.{are_rows, as_row}
 use Rattle.catalog.specs.declared.tables.Table.{Table}
 use Rattle.catalog.specs.declared.tables.TableRow as stored
 use Rattle.query_terms.specs.Outcome.{IsRefusedBy}
@@ -22,7 +22,7 @@ use Rattle.row_scan.specs.Rows.{TableRow}
 use Rattle.row_scan.specs.Sources.{as_source}
 use Rattle.row_change.specs.Choosing.{chosen_or_all}
 use Rattle.row_change.specs.Demands.{admitted, with_own_rowid}
-use Rattle.row_change.specs.Meaning.{AreEnough, as_row}
+use Rattle.row_change.specs.Meaning.{AreEnough}
 use Rattle.row_change.specs.NewRows.{row_of}
 use Rattle.row_change.specs.Setting.{row_set, rows_meant, rows_set, rows_turned}
 use Rattle.row_change.specs.Updating.{IsSetIn, SetsRow, row_moved}

@@ -8,13 +8,13 @@ ghost use Rattle.db_write.specs.OneRow.{TakesOneRow};
 
 use crate::entries::{clear_indexes, take_from_indexes};
 use crate::reading::{enough_rows, source_of};
+use crate::row_entries::take_row_from_indexes;
 use catalog::{Table, TableRow};
 use pages::WritePages;
 use query_terms::Term;
-use row_change::{meant_rows, take_rows, take_these};
+use row_change::{meant_places, take_rows, take_these};
 use sqlval::R;
 use std::alloc::Global;
-use std::array::from_ref;
 use tree_table::{clear, remove};
 
 /// Takes all rows out of a table's tree, and all entries out of the trees of its indexes. (What the two `clear` refuse.)
@@ -54,7 +54,7 @@ fn take_bare_rows<P: WritePages>(
 }
 
 /// Takes the rows for which a condition is true out of a table's tree, and their entries out of the trees of its indexes. (What
-/// `enough_rows`, `meant_rows`, `take_these` and `take_entries` refuse.)
+/// `enough_rows`, `meant_places`, `take_these` and `take_entries` refuse.)
 fn take_indexed_rows<P: WritePages>(
     alloc: Global,
     pages: &mut P,
@@ -72,9 +72,9 @@ fn take_indexed_rows<P: WritePages>(
         (P.Pages.count pages.new ≡ (P.Pages.limits (P.Pages.below pages.new)).most) }
 {
     let rows = enough_rows(alloc, pages, table, condition)?;
-    let gone = meant_rows(alloc, &rows, condition)?;
-    take_these(alloc, pages, source_of(table), &gone)?;
-    take_from_indexes(alloc, pages, table.indexes.as_slice(), &gone)
+    let places = meant_places(alloc, &rows, condition)?;
+    take_these(alloc, pages, source_of(table), &rows, &places)?;
+    take_from_indexes(alloc, pages, table.indexes.as_slice(), &rows, &places)
 }
 
 /// Takes the rows for which a condition is true out of a table, or all where there is none, and their entries out of its indexes. Rows are
@@ -115,10 +115,5 @@ pub fn take_row<P: WritePages>(alloc: Global, pages: &mut P, table: &Table, row:
         (P.Pages.count pages.new ≡ (P.Pages.limits (P.Pages.below pages.new)).most) }
 {
     remove(alloc, pages, table.root, row.rowid)?;
-    take_from_indexes(
-        alloc,
-        pages,
-        table.indexes.as_slice(),
-        from_ref(row).as_slice(),
-    )
+    take_row_from_indexes(alloc, pages, table.indexes.as_slice(), row)
 }

@@ -2,6 +2,8 @@
 
 ghost use Rattle.std.specs.Prelude.{◌≡◌, IsTrue, map};
 ghost use Rattle.pages.specs.Calls.{Causes};
+ghost use Rattle.query_terms.specs.Rows.{row_at};
+ghost use Rattle.catalog.specs.Rows.{as_row};
 ghost use Rattle.index_entries.specs.Keeping.{TakesEntries, row_in};
 ghost use Rattle.index_entries.specs.Replacing.{ReplacesEntries};
 ghost use Rattle.db_layout.specs.Trees.{columns_of};
@@ -10,47 +12,51 @@ ghost use Rattle.db_write.specs.Turning.{ClearsIndexes, FreesIndexes, ReplacesIn
 use catalog::{Index, TableRow};
 use index_entries::{replace_entries, take_entries};
 use pages::WritePages;
-use sqlval::R;
+use query_terms::SourceRow;
+use sqlval::{Many, R};
 use std::alloc::Global;
 use tree_index::{clear, free_tree};
 
-/// Takes the entries of rows out of an index's tree. (What `take_entries` refuses.)
+/// Takes the entries of the rows at these places out of an index's tree. (What `take_entries` refuses.)
 fn take_from_index<P: WritePages>(
     alloc: Global,
     pages: &mut P,
     index: &Index,
-    rows: &[TableRow],
+    rows: &Many<SourceRow>,
+    places: &[usize],
 ) -> R<()>
     ensures taken { IsTrue (P.Pages.tells (P.Pages.below pages.old))
         → TakesEntries (P.Pages.map pages.old) (P.Pages.map pages.new)
         (P.Pages.limits (P.Pages.below pages.old)).page
-        index.now.root (columns_of index.now) (map row_in rows.now) result }
+        index.now.root (columns_of index.now) (map (λ place. as_row (row_at rows.now place)) places.now) result }
     ensures kept { P.Pages.below pages.new ≡ P.Pages.below pages.old }
     ensures causes { Causes result (P.Pages.failures pages.old) (P.Pages.failures pages.new)
         (P.Pages.count pages.new ≡ (P.Pages.limits (P.Pages.below pages.new)).most) }
 {
-    take_entries(alloc, pages, index.root, index.columns.as_slice(), rows)
+    let columns = index.columns.as_slice();
+    take_entries(alloc, pages, index.root, columns, rows, places)
 }
 
-/// Takes the entries of rows that go from a table out of the tree of each of these indexes. (What `take_entries` refuses. Then some
-/// entries may be out.)
+/// Takes the entries of the rows at these places, which go from a table, out of the tree of each of these indexes. (What `take_entries` refuses. Then
+/// some entries may be out.)
 pub(crate) fn take_from_indexes<P: WritePages>(
     alloc: Global,
     pages: &mut P,
     indexes: &[Index],
-    rows: &[TableRow],
+    rows: &Many<SourceRow>,
+    places: &[usize],
 ) -> R<()>
     ensures taken { IsTrue (P.Pages.tells (P.Pages.below pages.old))
         → TakesFromIndexes (P.Pages.map pages.old) (P.Pages.map pages.new)
         (P.Pages.limits (P.Pages.below pages.old)).page
-        indexes.now (map row_in rows.now) result }
+        indexes.now (map (λ place. as_row (row_at rows.now place)) places.now) result }
     ensures kept { P.Pages.below pages.new ≡ P.Pages.below pages.old }
     ensures causes { Causes result (P.Pages.failures pages.old) (P.Pages.failures pages.new)
         (P.Pages.count pages.new ≡ (P.Pages.limits (P.Pages.below pages.new)).most) }
 {
     let mut left = indexes;
     'indexes: while let [index, rest @ ..] = left {
-        take_from_index(alloc, pages, index, rows)?;
+        take_from_index(alloc, pages, index, rows, places)?;
         left = rest;
     }
     Ok(())

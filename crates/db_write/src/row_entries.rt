@@ -1,18 +1,17 @@
 //! The entry of one row that comes to a table, or takes another's place, in the tree of each of the table's indexes.
 
-ghost use Rattle.std.specs.Prelude.{◌≡◌, IsTrue};
+ghost use Rattle.std.specs.Prelude.{◌≡◌, ◌∷◌, [], IsTrue};
 ghost use Rattle.pages.specs.Calls.{Causes};
 ghost use Rattle.row_change.specs.Agreement.{has_unique};
-ghost use Rattle.index_entries.specs.Keeping.{row_in};
-ghost use Rattle.db_write.specs.Turning.{AddsRowToIndex, AddsRowToIndexes, MovesRowInIndexes, ReplacesRowInIndex, ReplacesRowInIndexes};
+ghost use Rattle.index_entries.specs.Keeping.{TakesEntries, row_in};
+ghost use Rattle.db_layout.specs.Trees.{columns_of};
+ghost use Rattle.db_write.specs.Turning.{AddsRowToIndex, AddsRowToIndexes, MovesRowInIndexes, ReplacesRowInIndex, ReplacesRowInIndexes, TakesFromIndexes};
 
-use crate::entries::take_from_indexes;
 use catalog::{Index, Table, TableRow};
-use index_entries::{add_alone, add_row, replace_alone, replace_row};
+use index_entries::{add_alone, add_row, replace_alone, replace_row, take_row};
 use pages::WritePages;
 use sqlval::{Fault, R};
 use std::alloc::Global;
-use std::array::from_ref;
 
 /// Whether one of a table's indexes is UNIQUE.
 pub(crate) fn has_unique(table: &Table) -> bool
@@ -123,8 +122,50 @@ pub(crate) fn replace_row_in_indexes<P: WritePages>(
     Ok(())
 }
 
-/// Takes the entry of a row out of the tree of each of these indexes, and then puts that of another into each. (What `take_from_indexes` and
-/// `add_row_to_indexes` refuse. Then some entries may have changed.)
+/// Takes the entry of a row that goes from a table out of the tree of one of its indexes. (What `take_row` refuses.)
+fn take_row_from_index<P: WritePages>(
+    alloc: Global,
+    pages: &mut P,
+    index: &Index,
+    row: &TableRow,
+) -> R<()>
+    ensures taken { IsTrue (P.Pages.tells (P.Pages.below pages.old))
+        → TakesEntries (P.Pages.map pages.old) (P.Pages.map pages.new)
+        (P.Pages.limits (P.Pages.below pages.old)).page
+        index.now.root (columns_of index.now) (row_in row.now ∷ []) result }
+    ensures kept { P.Pages.below pages.new ≡ P.Pages.below pages.old }
+    ensures causes { Causes result (P.Pages.failures pages.old) (P.Pages.failures pages.new)
+        (P.Pages.count pages.new ≡ (P.Pages.limits (P.Pages.below pages.new)).most) }
+{
+    take_row(alloc, pages, index.root, index.columns.as_slice(), row)
+}
+
+/// Takes the entry of a row that goes from a table out of the tree of each of these indexes. (What `take_row` refuses. Then some entries may be
+/// out.)
+pub(crate) fn take_row_from_indexes<P: WritePages>(
+    alloc: Global,
+    pages: &mut P,
+    indexes: &[Index],
+    row: &TableRow,
+) -> R<()>
+    ensures taken { IsTrue (P.Pages.tells (P.Pages.below pages.old))
+        → TakesFromIndexes (P.Pages.map pages.old) (P.Pages.map pages.new)
+        (P.Pages.limits (P.Pages.below pages.old)).page
+        indexes.now (row_in row.now ∷ []) result }
+    ensures kept { P.Pages.below pages.new ≡ P.Pages.below pages.old }
+    ensures causes { Causes result (P.Pages.failures pages.old) (P.Pages.failures pages.new)
+        (P.Pages.count pages.new ≡ (P.Pages.limits (P.Pages.below pages.new)).most) }
+{
+    let mut left = indexes;
+    'indexes: while let [index, rest @ ..] = left {
+        take_row_from_index(alloc, pages, index, row)?;
+        left = rest;
+    }
+    Ok(())
+}
+
+/// Takes the entry of a row out of the tree of each of these indexes, and then puts that of another into each. (What `take_row_from_indexes`
+/// and `add_row_to_indexes` refuse. Then some entries may have changed.)
 pub(crate) fn move_row_in_indexes<P: WritePages>(
     alloc: Global,
     pages: &mut P,
@@ -140,6 +181,6 @@ pub(crate) fn move_row_in_indexes<P: WritePages>(
     ensures causes { Causes result (P.Pages.failures pages.old) (P.Pages.failures pages.new)
         (P.Pages.count pages.new ≡ (P.Pages.limits (P.Pages.below pages.new)).most) }
 {
-    take_from_indexes(alloc, pages, indexes, from_ref(gone).as_slice())?;
+    take_row_from_indexes(alloc, pages, indexes, gone)?;
     add_row_to_indexes(alloc, pages, indexes, come)
 }

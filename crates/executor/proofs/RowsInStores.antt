@@ -17,7 +17,7 @@ use Rattle.catalog.specs.Database.{ATable, Database, Name, row, with_object, wit
 use Rattle.catalog.specs.Laws.{ListsOtherRows}
 use Rattle.catalog.specs.Listed.{Listed, with_rows}
 use Rattle.catalog.specs.Named.{IsOfListed, KeepsNamed, ListsIndexes}
-use Rattle.catalog.specs.Rows.{are_rows}
+use Rattle.catalog.specs.Rows.{are_rows, as_row}
 use Rattle.catalog.specs.declared.tables.Table.{Table}
 use Rattle.catalog.specs.declared.tables.TableRow as stored
 use Rattle.query_terms.specs.Rows.{row_at}
@@ -26,7 +26,6 @@ use Rattle.row_scan.specs.Rows.{TableRow}
 use Rattle.row_scan.specs.Sources.{as_source}
 use Rattle.row_change.specs.Agreement.{HasIndexesOf, IsSetFor}
 use Rattle.row_change.specs.Constraints.{table_of, updated_rowid}
-use Rattle.row_change.specs.Meaning.{as_row}
 use Rattle.row_change.specs.NewRows.{row_of}
 use Rattle.row_change.specs.RowChanges.{insert_row}
 use Rattle.row_change.proofs.Rising.{Rises, fit_rows_rise}

@@ -4,11 +4,11 @@ ghost use Rattle.std.specs.Prelude.{◌≡◌, ◌∷◌, [], length, map, optio
 ghost use Rattle.sqlval.specs.Faults.{IsOrMemory};
 ghost use Rattle.sqlval.specs.declared.value.Value.{Value as Stored};
 ghost use Rattle.pages.specs.Calls.{Causes, Stays};
+ghost use Rattle.catalog.specs.Rows.{as_row};
 ghost use Rattle.catalog.specs.Listed.{listed_in};
 ghost use Rattle.query_plan.specs.Searching.{IsSought};
 ghost use Rattle.query_terms.specs.Terms.{Const, Term as Asked};
 ghost use Rattle.row_change.specs.Agreement.{IsSetFor};
-ghost use Rattle.row_change.specs.Meaning.{as_row};
 ghost use Rattle.row_change.specs.NewRows.{row_of};
 ghost use Rattle.row_scan.specs.Sources.{as_source};
 ghost use Rattle.executor.specs.Rows.{FindsAmong, FindsIn, InsertsInto, ReadsAll, SetsIn, StoredStay, TakesFrom, literals};

@@ -1,5 +1,6 @@
 -- Entries that go some at a time.
 use Rattle.std.proofs.Common.{◌≡◌, refl, sym, ap, subst, ◌∙◌, ◌≤◌, ℕ, zero, suc, List, [], ◌∷◌, ◌++◌, length, map, take, drop, arith, Ok, Err}
+use Rattle.std.proofs.lemmas.List.{append-nil}
 use mathlib.Core.Bool.{true≢false}
 use Rattle.std.specs.Prelude.{Result, IsErrAnd, MatchResult, ⊤}
 use Rattle.sqlval.specs.declared.collation.Collation.{Collation}
@@ -9,9 +10,8 @@ use Rattle.pages.specs.Map.{PageMap}
 use Rattle.pages.proofs.Moving.{in_sequence}
 use Rattle.tree_index.specs.Calls.{BecomesEntries, RemovesRun}
 use Rattle.tree_index.specs.Entries.{Entry, AreLong, GoInTurn, without_entries, without_entry}
-use Rattle.catalog.specs.declared.tables.TableRow.{TableRow}
 use Rattle.index_entries.specs.Entries.{AreApart, Columns, Row, collations, entries_of_rows, indexed}
-use Rattle.index_entries.specs.Keeping.{TakesEntries, row_in}
+use Rattle.index_entries.specs.Keeping.{TakesEntries, TakesEntry, Turns}
 use Rattle.index_entries.specs.Taking.{TakesBatch, TakesGone}
 use Rattle.index_entries.proofs.Rows.{takes_its_entry}
 use Rattle.index_entries.proofs.Turning.{indexed_long, keeps_all, keeps_then, then_turns, unmoved, without_one}
@@ -96,9 +96,9 @@ apart_less before [] after apart = apart
 apart_less before (row ∷ gone) after apart = apart_less before gone after (without_one before row (gone ++ after) apart)
 
 -- the entries of rows, by the rows
-pub entries_by_rows : (columns : Columns) (rows : List TableRow) → map (λ row. indexed columns (row_in row)) rows ≡ map (indexed columns) (map row_in rows)
-entries_by_rows columns [] = refl
-entries_by_rows columns (row ∷ rows) = ap (λ (es : List Entry). indexed columns (row_in row) ∷ es) (entries_by_rows columns rows)
+pub entries_by_rows : {A : Type 0} (columns : Columns) (row_of : A → Row) (rows : List A) → map (λ row. indexed columns (row_of row)) rows ≡ map (indexed columns) (map row_of rows)
+entries_by_rows columns row_of [] = refl
+entries_by_rows columns row_of (row ∷ rows) = ap (λ (es : List Entry). indexed columns (row_of row) ∷ es) (entries_by_rows columns row_of rows)
 
 module _ (size root : ℕ) (columns : Columns) where
   pub batch_taken : (old new : PageMap) (gone : List Row) (entries : List Entry) (under : List Collation) → entries ≡ map (indexed columns) gone → under ≡ collations columns → (result : Result ⊤ Fault)
@@ -120,13 +120,18 @@ module _ (size root : ℕ) (columns : Columns) where
   batch_stops old new batch rest fault (Ok done) same first = absurd same
   batch_stops old new batch rest fault (Err e) same first = λ rows apart used free stands. subst IsOutsideOrFull (sym same) (first rows rest apart used free stands)
 
+  -- one row goes as the last of the others
+  pub takes_one : (old new : PageMap) (row : Row) (result : Result ⊤ Fault) → TakesEntry old new size root columns row result → TakesEntries old new size root columns (row ∷ []) result
+  takes_one old new row result takes = λ rows apart.
+      subst (λ (rest : List Row). Turns old new size root columns (rows ++ row ∷ []) rest IsOutsideOrFull result) (append-nil rows) (takes rows [] apart)
+
 -- ---- rows in two parts
 
-pub rows_parted : (n : ℕ) (left batch rest : List TableRow) → batch ≡ take n left → rest ≡ drop n left → map row_in left ≡ map row_in batch ++ map row_in rest
-rows_parted n left batch rest front back =
-    parted n left ∙ ap (λ (rs : List TableRow). map row_in rs ++ map row_in (drop n left)) (sym front) ∙ ap (λ (rs : List TableRow). map row_in batch ++ map row_in rs) (sym back)
-  where
-    parted : (n : ℕ) (left : List TableRow) → map row_in left ≡ map row_in (take n left) ++ map row_in (drop n left)
-    parted zero left = refl
-    parted (suc n) [] = refl
-    parted (suc n) (row ∷ left) = ap (λ (rs : List Row). row_in row ∷ rs) (parted n left)
+parted : {A : Type 0} (row_of : A → Row) (n : ℕ) (left : List A) → map row_of left ≡ map row_of (take n left) ++ map row_of (drop n left)
+parted row_of zero left = refl
+parted row_of (suc n) [] = refl
+parted row_of (suc n) (row ∷ left) = ap (λ (rs : List Row). row_of row ∷ rs) (parted row_of n left)
+
+pub rows_parted : {A : Type 0} (row_of : A → Row) (n : ℕ) (left batch rest : List A) → batch ≡ take n left → rest ≡ drop n left → map row_of left ≡ map row_of batch ++ map row_of rest
+rows_parted {A} row_of n left batch rest front back =
+    parted row_of n left ∙ ap (λ (rs : List A). map row_of rs ++ map row_of (drop n left)) (sym front) ∙ ap (λ (rs : List A). map row_of batch ++ map row_of rs) (sym back)

@@ -1,3 +1,4 @@
+mod ReadRows
 mod Sorting
 mod RowOrder
 mod Turning

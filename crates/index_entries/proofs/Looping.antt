@@ -4,8 +4,7 @@ use Rattle.std.specs.Prelude.{Result, ⊤}
 use Rattle.sqlval.specs.declared.fault.Fault.{Fault}
 use Rattle.pages.specs.Calls.{Causes, Limits}
 use Rattle.pages.specs.Map.{PageMap}
-use Rattle.index_entries.specs.Keeping.{row_in}
-use Rattle.catalog.specs.declared.tables.TableRow.{TableRow}
+use Rattle.index_entries.specs.Entries.{Row}
 
 -- The pages stand as they did; and what becomes of the rows that are left, from here on, is what becomes of all from the first on.
 pub record IsOn {P K X : Type 0} (below : P → K) (tells : K → Bool) (limits : K → Limits) (pages : P → PageMap) (failures : P → ℕ × ℕ)
@@ -21,6 +20,6 @@ pub since : {P K : Type 0} (below : P → K) (tells : K → Bool) (limits : K �
 since {P} {K} below tells limits old mid Does kept does told =
     subst (λ (k : K). Does (limits k).page) kept (does (subst (λ (k : K). IsTrue (tells k)) (sym kept) told))
 
-pub none_left : (left : List TableRow) → length left < 1 → map row_in left ≡ []
-none_left [] few = refl
-none_left (first ∷ left) few = absurd (omega (arith, few))
+pub none_left : {A : Type 0} (row_of : A → Row) (left : List A) → length left < 1 → map row_of left ≡ []
+none_left row_of [] few = refl
+none_left row_of (first ∷ left) few = absurd (omega (arith, few))

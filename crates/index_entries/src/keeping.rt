@@ -2,13 +2,16 @@
 
 ghost use Rattle.std.specs.Prelude.{◌≡◌, ◌∷◌, [], map, IsTrue};
 ghost use Rattle.pages.specs.Calls.{Causes};
+ghost use Rattle.query_terms.specs.Rows.{row_at};
+ghost use Rattle.catalog.specs.Rows.{as_row};
 ghost use Rattle.index_entries.specs.Keeping.{AddsEntries, TakesEntries, TakesEntry, columns_in, row_in};
 
 use crate::columns::{collations_of, entry_of};
-use crate::taking::take_batch;
+use crate::taking::take_batch_at;
 use catalog::{IndexColumn, TableRow};
 use pages::WritePages;
-use sqlval::{Collation, Damage, Fault, R};
+use query_terms::SourceRow;
+use sqlval::{Collation, Damage, Fault, Many, R};
 use std::alloc::Global;
 use tree_index::{insert, remove};
 
@@ -86,28 +89,49 @@ pub fn add_row<P: WritePages>(
     add_entry(alloc, pages, root, columns, &under, row)
 }
 
-/// Takes the entries of rows that go from a table out of the tree of one of its indexes. (`Memory`, `Io`, `Full`. Then some entries may be
-/// out.)
-pub fn take_entries<P: WritePages>(
+/// Takes the entry of a row that goes from a table out of the tree of one of its indexes. (`Memory`, `Io`, `Full`.)
+pub fn take_row<P: WritePages>(
     alloc: Global,
     pages: &mut P,
     root: u32,
     columns: &[IndexColumn],
-    rows: &[TableRow],
+    row: &TableRow,
 ) -> R<()>
     ensures taken { IsTrue (P.Pages.tells (P.Pages.below pages.old))
         → TakesEntries (P.Pages.map pages.old) (P.Pages.map pages.new)
         (P.Pages.limits (P.Pages.below pages.old)).page
-        root (columns_in columns.now) (map row_in rows.now) result }
+        root (columns_in columns.now) (row_in row.now ∷ []) result }
     ensures kept { P.Pages.below pages.new ≡ P.Pages.below pages.old }
     ensures causes { Causes result (P.Pages.failures pages.old) (P.Pages.failures pages.new)
         (P.Pages.count pages.new ≡ (P.Pages.limits (P.Pages.below pages.new)).most) }
 {
     let under = collations_of(alloc, columns)?;
-    let mut left = rows;
+    take_entry(alloc, pages, root, columns, &under, row)
+}
+
+/// Takes the entries of the rows at these places, which go from a table, out of the tree of one of its indexes; of rows that were read, none is
+/// copied whole. (`Memory`, `Io`, `Full`. Then some entries may be out.)
+pub fn take_entries<P: WritePages>(
+    alloc: Global,
+    pages: &mut P,
+    root: u32,
+    columns: &[IndexColumn],
+    rows: &Many<SourceRow>,
+    places: &[usize],
+) -> R<()>
+    ensures taken { IsTrue (P.Pages.tells (P.Pages.below pages.old))
+        → TakesEntries (P.Pages.map pages.old) (P.Pages.map pages.new)
+        (P.Pages.limits (P.Pages.below pages.old)).page
+        root (columns_in columns.now) (map (λ place. as_row (row_at rows.now place)) places.now) result }
+    ensures kept { P.Pages.below pages.new ≡ P.Pages.below pages.old }
+    ensures causes { Causes result (P.Pages.failures pages.old) (P.Pages.failures pages.new)
+        (P.Pages.count pages.new ≡ (P.Pages.limits (P.Pages.below pages.new)).most) }
+{
+    let under = collations_of(alloc, columns)?;
+    let mut left = places;
     'batches: while !left.is_empty() {
         let (batch, rest) = left.split_at(left.len().min(BATCH));
-        take_batch(alloc, pages, root, columns, &under, batch)?;
+        take_batch_at(alloc, pages, root, columns, &under, rows, batch)?;
         left = rest;
     }
     Ok(())

@@ -7,12 +7,13 @@ mod columns;
 mod keeping;
 mod laws;
 mod others;
+mod places;
 mod replacements;
 mod taking;
 
 pub use alone::{add_alone, replace_alone};
 pub use columns::{collations_of, key_of};
-pub use keeping::{add_row, take_entries};
+pub use keeping::{add_row, take_entries, take_row};
 pub use laws::{entries_follow_rows, entries_have_keys};
 pub use others::is_alone;
 pub use replacements::{replace_entries, replace_row};

@@ -2,13 +2,17 @@
 
 ghost use Rattle.std.specs.Prelude.{◌≡◌, map, IsTrue, IfErr, IfOk};
 ghost use Rattle.pages.specs.Calls.{Causes};
+ghost use Rattle.query_terms.specs.Rows.{row_at};
+ghost use Rattle.catalog.specs.Rows.{as_row};
 ghost use Rattle.index_entries.specs.Entries.{indexed};
 ghost use Rattle.index_entries.specs.Keeping.{columns_in, row_in};
 ghost use Rattle.index_entries.specs.Taking.{TakesBatch, TakesGone};
 
 use crate::columns::entry_of;
+use crate::places::entries_at;
 use catalog::{IndexColumn, TableRow};
 use pages::WritePages;
+use query_terms::SourceRow;
 use sqlval::{Collation, Damage, Fault, Many, R, Value};
 use std::alloc::Global;
 use tree_index::remove_run;
@@ -77,5 +81,29 @@ pub(crate) fn take_batch<P: WritePages>(
         (P.Pages.count pages.new ≡ (P.Pages.limits (P.Pages.below pages.new)).most) }
 {
     let entries = entries_for(alloc, columns, rows)?;
+    take_gone(alloc, pages, root, under, entries.as_slice())
+}
+
+/// Takes the entries of the rows at these places, which go from among others, out of an index's tree. (What `take_gone` refuses. Then some may be
+/// out.)
+pub(crate) fn take_batch_at<P: WritePages>(
+    alloc: Global,
+    pages: &mut P,
+    root: u32,
+    columns: &[IndexColumn],
+    under: &[Collation],
+    rows: &Many<SourceRow>,
+    places: &[usize],
+) -> R<()>
+    requires { under.now ≡ map (λ column. column.collation) columns.now }
+    ensures taken { IsTrue (P.Pages.tells (P.Pages.below pages.old))
+        → TakesBatch (P.Pages.map pages.old) (P.Pages.map pages.new)
+        (P.Pages.limits (P.Pages.below pages.old)).page
+        root (columns_in columns.now) (map (λ place. as_row (row_at rows.now place)) places.now) result }
+    ensures kept { P.Pages.below pages.new ≡ P.Pages.below pages.old }
+    ensures causes { Causes result (P.Pages.failures pages.old) (P.Pages.failures pages.new)
+        (P.Pages.count pages.new ≡ (P.Pages.limits (P.Pages.below pages.new)).most) }
+{
+    let entries = entries_at(alloc, columns, rows, places)?;
     take_gone(alloc, pages, root, under, entries.as_slice())
 }

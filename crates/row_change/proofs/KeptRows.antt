@@ -19,7 +19,7 @@ use Rattle.tree_page.specs.Cells.{Pairwise}
 use Rattle.tree_table.specs.Calls.{BecomesRows, ChangesRows, Stands}
 use Rattle.tree_table.specs.declared.changing.RowChange.{RowChange}
 use Rattle.catalog.specs.Listed.{as_column, own_column, shape_of}
-use Rattle.catalog.specs.Rows.{in_record, is_value}
+use Rattle.catalog.specs.Rows.{in_record, is_value, rowid_number}
 use Rattle.catalog.specs.declared.tables.Column.{Column}
 use Rattle.catalog.specs.declared.tables.Index.{Index}
 use Rattle.catalog.specs.declared.tables.IndexColumn.{IndexColumn}
@@ -41,7 +41,7 @@ use Rattle.row_change.specs.Demands.{demanded}
 use Rattle.row_change.specs.Keeping.{AreKeptBy, AreStoredAsGiven, HaveOneKey, IsChangeTo, IsKept, IsKeptBy, KeepsAll, PutsKept, names_column, names_key}
 use Rattle.row_change.specs.Meaning.{AreEnough}
 use Rattle.row_change.specs.NewRows.{IsReplacement, IsWritten, entry_left}
-use Rattle.row_change.specs.Setting.{keeps_rowids, names_place, row_set, rowid_left, rowid_number, rows_meant, rows_meant_set, rows_set_each}
+use Rattle.row_change.specs.Setting.{keeps_rowids, names_place, row_set, rowid_left, rows_meant, rows_meant_set, rows_set_each}
 use Rattle.row_change.specs.Updating.{AreSetIn, with_all_replaced}
 use Rattle.row_change.proofs.Demanded.{can_store}
 use Rattle.row_change.proofs.KeptKeys.{chosen_known, kept_itself}

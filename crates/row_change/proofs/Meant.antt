@@ -6,6 +6,7 @@ use Rattle.std.proofs.lemmas.List.{map_more, take_all}
 use Rattle.sqlval.specs.Refusals.{Answer, ◌then◌}
 use Rattle.sqlval.specs.declared.fault.Fault.{Fault}
 use Rattle.sqlval.specs.declared.fault.Fault.TheVariants.{Memory}
+use Rattle.catalog.specs.Rows.{as_row}
 use Rattle.catalog.specs.declared.tables.TableRow as stored
 use Rattle.query_terms.specs.Outcome.{AnswersBy, IsRefusedBy}
 use Rattle.query_terms.specs.Rows.{row_at}
@@ -14,7 +15,7 @@ use Rattle.query_terms.specs.Values.{Row}
 use Rattle.row_scan.specs.Rows.{TableRow}
 use Rattle.row_scan.specs.Sources.{as_source}
 use Rattle.row_change.specs.Choosing.{chosen_or_all}
-use Rattle.row_change.specs.Meaning.{AreEnough, as_row}
+use Rattle.row_change.specs.Meaning.{AreEnough}
 use Rattle.row_change.specs.NewRows.{row_of}
 use Rattle.row_change.specs.Setting.{rows_meant}
 use Rattle.row_change.proofs.SetRows.{map_twice}

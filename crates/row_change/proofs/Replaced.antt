@@ -19,7 +19,7 @@ use Rattle.tree_table.specs.Rows.{with_change, with_changes, with_replaced}
 use Rattle.tree_table.specs.declared.changing.RowChange.{RowChange}
 use Rattle.catalog.specs.Database.{TableColumn}
 use Rattle.catalog.specs.Listed.{as_column, own_column, shape_of, with_rows}
-use Rattle.catalog.specs.Rows.{holds_rowid, is_row, is_value}
+use Rattle.catalog.specs.Rows.{holds_rowid, is_row, is_value, rowid_number}
 use Rattle.catalog.specs.declared.tables.Table.{Table}
 use Rattle.query_names.specs.Readings.{env_of, values}
 use Rattle.query_terms.specs.Terms.{Term}
@@ -31,7 +31,7 @@ use Rattle.row_change.specs.Constraints.{set_values, with_affinity}
 use Rattle.row_change.specs.Demands.{demanded}
 use Rattle.row_change.specs.NewRows.{IsReplacement, IsWritten, all_hold, entry_left}
 use Rattle.record.specs.Writing.{AreStorable}
-use Rattle.row_change.specs.Setting.{keeps_rowids, row_after, row_set, rowid_left, rowid_number, rows_meant_set, source_set, values_set}
+use Rattle.row_change.specs.Setting.{keeps_rowids, row_after, row_set, rowid_left, rows_meant_set, source_set, values_set}
 use Rattle.row_change.specs.Trees.{FitNow}
 use Rattle.row_change.specs.Updating.{ReplacesRows, with_all_replaced}
 use Rattle.row_change.proofs.AmongRows.{in_place, stays_before}

@@ -8,6 +8,7 @@ use Rattle.sqlval.specs.Refusals.{Answer, ◌then◌, RowidMismatch, all_answers
 use Rattle.sqlval.specs.declared.fault.Fault.{Fault}
 use Rattle.sqlval.specs.declared.value.Value.{Value}
 use Rattle.sqlval.specs.declared.value.Value.TheVariants.{Null, Int, Text, Blob}
+use Rattle.catalog.specs.Rows.{rowid_number}
 use Rattle.catalog.specs.Database.{TableColumn}
 use Rattle.catalog.specs.Listed.{as_column, own_column}
 use Rattle.catalog.specs.declared.tables.Column.{Column}
@@ -23,7 +24,7 @@ use Rattle.query_names.proofs.QuietValues.{of_holds, of_values}
 use Rattle.row_scan.specs.Rows.{TableRow}
 use Rattle.row_change.specs.Constraints.{set_values, with_affinity}
 use Rattle.row_change.specs.Demands.{demanded}
-use Rattle.row_change.specs.Setting.{is_meant_for, rowid_left, rowid_number, rows_changed, rows_meant, set_over, source_set, values_set}
+use Rattle.row_change.specs.Setting.{is_meant_for, rowid_left, rows_changed, rows_meant, set_over, source_set, values_set}
 use Rattle.row_change.proofs.Demanded.{of_demanded}
 
 -- ---- values

@@ -19,7 +19,7 @@ use Rattle.tree_page.specs.Cells.{Pairwise}
 use Rattle.tree_table.specs.Calls.{BecomesRows, Stands}
 use Rattle.tree_table.specs.Rows.{payload_at, with_replaced, with_row, without_row}
 use Rattle.catalog.specs.Listed.{as_column, own_column, shape_of, with_rows}
-use Rattle.catalog.specs.Rows.{are_rows, holds_rowid, is_row}
+use Rattle.catalog.specs.Rows.{are_rows, holds_rowid, is_row, rowid_number}
 use Rattle.catalog.specs.declared.tables.RowShape.{RowShape}
 use Rattle.catalog.specs.declared.tables.Table.{Table}
 use Rattle.catalog.specs.declared.tables.TableRow as stored
@@ -36,7 +36,7 @@ use Rattle.row_change.specs.Inserting.{AllStorable}
 use Rattle.row_change.specs.Meaning.{AreEnough}
 use Rattle.row_change.specs.NewRows.{IsWritten, all_hold}
 use Rattle.row_change.specs.Putting.{MovesRow}
-use Rattle.row_change.specs.Setting.{row_set, rowid_left, rowid_number, rows_changed, rows_meant, rows_meant_set, rows_set_each, source_set}
+use Rattle.row_change.specs.Setting.{row_set, rowid_left, rows_changed, rows_meant, rows_meant_set, rows_set_each, source_set}
 use Rattle.row_change.specs.Updating.{AreSetIn, IsSetIn, IsSetRefusal, ReplacesRows, SetsRow, SetsRows, TellsChanged, row_moved, with_all_replaced}
 use Rattle.row_change.proofs.AmongRows.{find_others, fit_put, fit_without, is_there, one_of_all, own_free, own_taken, put_pairs, replaced_moves, without_pairs}
 use Rattle.row_change.proofs.FitRows.{row_fits, word_fits}

@@ -17,12 +17,12 @@ use Rattle.tree_table.specs.Calls.{BecomesRows, ChangesRows, Stands}
 use Rattle.tree_table.specs.Rows.{without_row, with_change, with_changes}
 use Rattle.tree_table.proofs.Orders.{less_not, same_or_other}
 use Rattle.catalog.specs.Listed.{with_rows}
-use Rattle.catalog.specs.Rows.{are_rows, is_row}
+use Rattle.catalog.specs.Rows.{are_rows, as_row, is_row, rowid_number}
 use Rattle.catalog.specs.declared.tables.RowShape.{RowShape}
 use Rattle.catalog.specs.declared.tables.Table.{Table}
-use Rattle.catalog.specs.declared.tables.TableRow as stored
 use Rattle.query_names.specs.declared.queries.BoundSource.{BoundSource}
 use Rattle.query_terms.specs.Outcome.{IsRefusedBy}
+use Rattle.query_terms.specs.Rows.{row_at}
 use Rattle.query_terms.specs.Terms.{Term}
 use Rattle.query_terms.specs.Values.{Row}
 use Rattle.row_scan.specs.Rows.{IsRow, TableRow}
@@ -31,7 +31,6 @@ use Rattle.row_scan.proofs.RowOrder.{both_true}
 use Rattle.row_scan.proofs.TreeOrder.{tree_rises}
 use Rattle.row_change.specs.Choosing.{chosen, is_chosen, rows_left}
 use Rattle.row_change.specs.Meaning.{AreEnough}
-use Rattle.row_change.specs.NewRows.{row_of}
 use Rattle.tree_table.specs.declared.changing.RowChange.{RowChange}
 use Rattle.row_change.specs.Taking.{AreTakenOut, IsTakeRefusal, MakesRows, TakesRows, TakesThese, without_rows}
 use Rattle.row_change.proofs.Chosen.{chosen_and_left, chosen_refused}
@@ -188,19 +187,18 @@ left_out old new size table condition rowids result makes rows entries used free
     by (Err fault) cannot = cannot
 
 -- a rowid more
-pub rowid_on : (rows : List stored.TableRow) (i : ℕ) (row : stored.TableRow) (rowids : List ℤ) → i < length rows → row ≡ slice_index_or rows i row → rowids ≡ map (λ row. row.rowid) (take i rows)
-    → rowids ++ row.rowid ∷ [] ≡ map (λ row. row.rowid) (take (i + 1) rows)
-rowid_on rows i row rowids lt is so =
-    ap (λ (ids : List ℤ). ids ++ row.rowid ∷ []) so
-    ∙ (ap (λ (r : stored.TableRow). map (λ row. row.rowid) (take i rows) ++ r.rowid ∷ []) is ∙ sym (map_more (λ row. row.rowid) rows i row lt))
+pub rowid_on : (rowid_of : ℕ → ℤ) (places : List ℕ) (i : ℕ) (rowids : List ℤ) → i < length places → rowids ≡ map rowid_of (take i places)
+    → rowids ++ rowid_of (slice_index_or places i 0) ∷ [] ≡ map rowid_of (take (i + 1) places)
+rowid_on rowid_of places i rowids lt so =
+    ap (λ (ids : List ℤ). ids ++ rowid_of (slice_index_or places i 0) ∷ []) so ∙ sym (map_more rowid_of places i 0 lt)
 
-pub rowids_at_end : (rows : List stored.TableRow) (i : ℕ) → length rows ≤ i → map (λ row. row.rowid) (take i rows) ≡ map (λ row. row.rowid) rows
-rowids_at_end rows i le = ap (λ (rs : List stored.TableRow). map (λ row. row.rowid) rs) (take_all i rows le)
+pub rowids_at_end : (rowid_of : ℕ → ℤ) (places : List ℕ) (i : ℕ) → length places ≤ i → map rowid_of (take i places) ≡ map rowid_of places
+rowids_at_end rowid_of places i le = ap (map rowid_of) (take_all i places le)
 
--- of rows of a table
-rowids_held : (gone : List stored.TableRow) → map (λ row. row.rowid) gone ≡ rowids_in (map row_of gone)
-rowids_held [] = refl
-rowids_held (row ∷ gone) = ap (λ (ids : List ℤ). row.rowid ∷ ids) (rowids_held gone)
+-- of rows that were read
+rowids_read : (rows : List Row) (places : List ℕ) → map (λ place. rowid_number (row_at rows place).rowid) places ≡ rowids_in (map (λ place. as_row (row_at rows place)) places)
+rowids_read rows [] = refl
+rowids_read rows (place ∷ places) = ap (λ (ids : List ℤ). rowid_number (row_at rows place).rowid ∷ ids) (rowids_read rows places)
 
 module _ (old new : PageMap) (size : ℕ) where
   -- no removals are made
@@ -213,11 +211,11 @@ module _ (old new : PageMap) (size : ℕ) where
   none_counted table gone fault (Ok done) same memory = absurd same
   none_counted table gone fault (Err e) same memory = λ condition rows entries used free is each are. inl (inl (same ∙ memory))
 
-  pub these_taken : (table : BoundSource) (gone : List stored.TableRow) (rowids : List ℤ) (result : Result ⊤ Fault) → rowids ≡ map (λ row. row.rowid) gone
-      → MakesRows old new size table.root (without_rows rowids) result → TakesThese old new size table (map row_of gone) result
-  these_taken table gone rowids result are makes condition rows entries used free is each chosen_are =
+  pub these_taken : (table : BoundSource) (found : List Row) (places : List ℕ) (rowids : List ℤ) (result : Result ⊤ Fault) → rowids ≡ map (λ place. rowid_number (row_at found place).rowid) places
+      → MakesRows old new size table.root (without_rows rowids) result → TakesThese old new size table (map (λ place. as_row (row_at found place)) places) result
+  these_taken table found places rowids result are makes condition rows entries used free is each chosen_are =
       left_out old new size table condition rowids result makes rows entries used free is each
-      (ap rowids_of chosen_are ∙ ap (λ (ids : List ℤ). Ok ids) (sym (are ∙ rowids_held gone)))
+      (ap rowids_of chosen_are ∙ ap (λ (ids : List ℤ). Ok ids) (sym (are ∙ rowids_read found places)))
 
 module _ (old new : PageMap) (size : ℕ) (table : BoundSource) (condition : Term) (found : List Row) where
   refused : (fault : Fault) (result : Result ⊤ Fault) → IsErrAnd result (λ e. e ≡ fault)

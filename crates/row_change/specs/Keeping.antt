@@ -13,7 +13,7 @@ use Rattle.tree_table.specs.Calls.{Stands}
 use Rattle.tree_table.specs.declared.changing.RowChange.{RowChange}
 use Rattle.catalog.specs.Database.{TableColumn}
 use Rattle.catalog.specs.Listed.{as_column, own_column, shape_of, with_rows}
-use Rattle.catalog.specs.Rows.{are_rows}
+use Rattle.catalog.specs.Rows.{are_rows, as_row}
 use Rattle.catalog.specs.declared.tables.Index.{Index}
 use Rattle.catalog.specs.declared.tables.Table.{Table}
 use Rattle.query_terms.specs.Terms.{Term}
@@ -22,7 +22,7 @@ use Rattle.row_scan.specs.Rows.{IsRow, TableRow}
 use Rattle.row_change.specs.Choosing.{chosen_or_all}
 use Rattle.row_change.specs.Constraints.{can_be_stored, not_null_holds, with_affinity}
 use Rattle.row_change.specs.Demands.{demanded, is_alone}
-use Rattle.row_change.specs.Meaning.{AreEnough, as_row}
+use Rattle.row_change.specs.Meaning.{AreEnough}
 use Rattle.row_change.specs.NewRows.{IsReplacement, IsWritten, entry_left}
 use Rattle.row_change.specs.Setting.{keeps_rowids, names_place, row_set, rowid_left, rows_beside, rows_set, rows_set_each, source_set}
 use Rattle.row_change.specs.Updating.{AreSetIn}

@@ -5,11 +5,6 @@ use Rattle.query_terms.specs.Values.{Row}
 use Rattle.row_scan.specs.Rows.{TableRow}
 use Rattle.row_scan.specs.Sources.{as_source}
 use Rattle.row_change.specs.Choosing.{chosen_or_all}
-use Rattle.row_change.specs.Setting.{rowid_number}
-
--- a source's row as a table has it
-abbrev pub as_row : Row → TableRow
-as_row row = (rowid_number row.rowid, row.values)
 
 -- Of all rows it's enough to read some: the condition chooses the same of them, or is refused as for all (The SQLite Query Optimizer
 -- Overview, "WHERE Clause Analysis").

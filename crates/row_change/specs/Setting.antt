@@ -1,5 +1,5 @@
 -- What UPDATE makes of the rows of a table (SQL As Understood By SQLite, "UPDATE").
-use Rattle.std.specs.Prelude.{ℕ, ℤ, pos, Bool, true, false, not, ◌&&◌, ◌==◌, List, [], ◌∷◌, ◌++◌, map, zip, Option, Some, None, Ok, Err, if◌then◌else◌, slice_get, unwrap_or}
+use Rattle.std.specs.Prelude.{ℕ, ℤ, Bool, true, false, not, ◌&&◌, ◌==◌, List, [], ◌∷◌, ◌++◌, map, zip, Option, Some, None, Ok, Err, if◌then◌else◌, slice_get, unwrap_or}
 use Rattle.std.specs.FinMap.Entries.{put, where_key}
 use Rattle.std.specs.List.{list_any}
 use Rattle.std.specs.Ordering.{eq_by_cmp, int_cmp}
@@ -8,6 +8,7 @@ use Rattle.sqlval.specs.declared.affinity.Affinity.TheVariants.{Integer}
 use Rattle.sqlval.specs.declared.value.Value.{Value}
 use Rattle.sqlval.specs.declared.value.Value.TheVariants.{Null, Int}
 use Rattle.query_names.specs.Readings.{env_of, holds, values}
+use Rattle.catalog.specs.Rows.{rowid_number}
 use Rattle.catalog.specs.Listed.{as_column, own_column}
 use Rattle.catalog.specs.declared.tables.Column.{Column}
 use Rattle.catalog.specs.declared.tables.Table.{Table}
@@ -103,10 +104,6 @@ abbrev pub rows_meant : Option Term → List Row → List Row → Answer (List R
 rows_meant condition before [] = Ok before
 rows_meant condition before (row ∷ rows) =
     is_meant_for condition row then λ test. rows_meant condition (if test then before ++ row ∷ [] else before) rows
-
--- the rowid of a table's row
-abbrev pub rowid_number : Value → ℤ
-rowid_number value = elim value [ Int rowid ↦ rowid | _ ↦ pos 0 ]
 
 -- what a source's row becomes by SET
 abbrev pub source_set : Table → List (ℕ × Term) → Row → Answer TableRow

@@ -4,9 +4,10 @@ ghost use Rattle.std.specs.Prelude.{◌≡◌, List, [], IfErr, IfOk, map};
 ghost use Rattle.sqlval.specs.Faults.{IsNotDiskFault};
 ghost use Rattle.query_terms.specs.Outcome.{AnswersBy};
 ghost use Rattle.query_terms.specs.Rows.{row_at};
+ghost use Rattle.catalog.specs.Rows.{as_row};
 ghost use Rattle.row_scan.specs.Rows as held;
 ghost use Rattle.row_change.specs.Choosing.{chosen_or_all};
-ghost use Rattle.row_change.specs.Meaning.{AreEnough, as_row};
+ghost use Rattle.row_change.specs.Meaning.{AreEnough};
 ghost use Rattle.row_change.specs.NewRows.{row_of};
 ghost use Rattle.row_change.specs.Setting.{rows_meant};
 

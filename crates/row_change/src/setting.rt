@@ -3,6 +3,7 @@
 ghost use Rattle.std.specs.Prelude.{◌≡◌, ◌++◌, ◌∷◌, [], IfErr, IfOk, OnOk, map, slice_set, if◌then◌else◌};
 ghost use Rattle.sqlval.specs.Faults.{IsNotDiskFault};
 ghost use Rattle.sqlval.specs.Refusals.{all_answers};
+ghost use Rattle.catalog.specs.Rows.{rowid_number};
 ghost use Rattle.catalog.specs.Listed.{as_column};
 ghost use Rattle.query_names.specs.Readings.{env_of};
 ghost use Rattle.query_terms.specs.Outcome.{AnswersBy};
@@ -10,7 +11,7 @@ ghost use Rattle.query_terms.specs.Rows.{picked_rows, row_at, seen};
 ghost use Rattle.row_change.specs.Constraints.{with_affinity};
 ghost use Rattle.row_change.specs.NewRows.{row_of};
 ghost use Rattle.row_change.specs.Setting as law;
-ghost use Rattle.row_change.specs.Setting.{is_meant_for, rowid_left, rowid_number, rows_meant, set_over, source_set};
+ghost use Rattle.row_change.specs.Setting.{is_meant_for, rowid_left, rows_meant, set_over, source_set};
 
 use crate::demands::check_row;
 use crate::inserting::stored_value;

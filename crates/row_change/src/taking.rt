@@ -4,11 +4,12 @@ ghost use Rattle.std.specs.Prelude.{◌≡◌, List, None, IfOk, IfErr, IsTrue, 
 ghost use Rattle.tree_leaf.specs.Leaf.{Entry};
 ghost use Rattle.pages.specs.Calls.{Causes};
 ghost use Rattle.tree_table.specs.Rows.{with_changes};
-ghost use Rattle.row_change.specs.NewRows.{row_of};
+ghost use Rattle.query_terms.specs.Rows.{row_at};
+ghost use Rattle.catalog.specs.Rows.{as_row, rowid_number};
 ghost use Rattle.row_change.specs.Taking.{MakesRows, TakesRows, TakesThese, without_rows};
 
 use crate::choosing::chosen_rowids;
-use catalog::TableRow;
+use crate::setting::rowid_at;
 use pages::WritePages;
 use query_names::BoundSource;
 use query_terms::{SourceRow, Term};
@@ -75,40 +76,36 @@ pub fn take_rows<P: WritePages>(
     take_rowids(alloc, pages, table.root, &rowids)
 }
 
-/// The rowid of a row.
-fn rowid_of(row: &TableRow) -> i64
-    ensures { result ≡ row.now.rowid }
-{
-    row.rowid
-}
-
-/// The rowids of these rows. (`Memory`.)
-fn rowids_of(alloc: Global, rows: &[TableRow]) -> R<Vec<i64>>
-    ensures rowids { IfOk result (λ rowids. rowids.items ≡ map (λ row. row.rowid) rows.now) }
+/// The rowids of the rows at these places. (`Memory`.)
+fn rowids_at(alloc: Global, rows: &Many<SourceRow>, places: &[usize]) -> R<Vec<i64>>
+    ensures rowids { IfOk result (λ rowids. rowids.items
+        ≡ map (λ place. rowid_number (row_at rows.now place).rowid) places.now) }
     ensures refused { IfErr result (λ fault. fault ≡ Fault.Memory) }
 {
-    let mut rowids = Vec::with_capacity(alloc, rows.len())?;
-    'rows: for row in rows {
-        rowids.push(rowid_of(row))?;
+    let mut rowids = Vec::with_capacity(alloc, places.len())?;
+    'places: for place in places {
+        rowids.push(rowid_at(rows, *place))?;
     }
     Ok(rowids)
 }
 
-/// Takes these rows out of a table's tree: those for which a condition is true, where it has been evaluated. (What `change_rows` refuses.)
+/// Takes the rows at these places, of rows that were read, out of a table's tree: those for which a condition is true, where it has been evaluated.
+/// (What `change_rows` refuses.)
 pub fn take_these<P: WritePages>(
     alloc: Global,
     pages: &mut P,
     table: BoundSource,
-    gone: &[TableRow],
+    rows: &Many<SourceRow>,
+    places: &[usize],
 ) -> R<()>
     ensures taken { IsTrue (P.Pages.tells (P.Pages.below pages.old))
         → TakesThese (P.Pages.map pages.old) (P.Pages.map pages.new)
         (P.Pages.limits (P.Pages.below pages.old)).page
-        table (map row_of gone.now) result }
+        table (map (λ place. as_row (row_at rows.now place)) places.now) result }
     ensures kept { P.Pages.below pages.new ≡ P.Pages.below pages.old }
     ensures causes { Causes result (P.Pages.failures pages.old) (P.Pages.failures pages.new)
         (P.Pages.count pages.new ≡ (P.Pages.limits (P.Pages.below pages.new)).most) }
 {
-    let rowids = rowids_of(alloc, gone)?;
+    let rowids = rowids_at(alloc, rows, places)?;
     take_rowids(alloc, pages, table.root, &rowids)
 }

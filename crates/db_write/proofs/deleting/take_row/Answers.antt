@@ -1,7 +1,6 @@
-use Rattle.std.proofs.Common.{rules, ◌∙◌, [], ◌∷◌, SFits, ap, map, subst, w64, ℕ, ℤ, List, Ok, Err}
+use Rattle.std.proofs.Common.{rules, [], ◌∷◌, SFits, subst, w64, ℕ, ℤ, List, Ok, Err}
 use Rattle.std.proofs.lemmas.Int.{to_z-of_z}
 use Rattle.catalog.specs.declared.tables.Index.{Index}
-use Rattle.row_scan.specs.Rows.{TableRow}
 use Rattle.tree_table.specs.Calls.{RemovesRow}
 use Rattle.index_entries.specs.Keeping.{row_in}
 use Rattle.db_write.specs.Turning.{TakesFromIndexes}
@@ -28,16 +27,15 @@ returns-clause-taken g c = λ told.
     let start = c.args.pages.now in
     let old = pages.map start in
     let mid = c.remove.new.pages in
-    let new = pages.map c.take_from_indexes.new.pages in
+    let new = pages.map c.take_row_from_indexes.new.pages in
     let size = (pages.limits (pages.below start)).page in
     let table = c.args.table.now in
     let row = c.args.row.now in
     let there = c.in_ok-remove.field-0 in
-    let result = c.take_from_indexes.result in
+    let result = c.take_row_from_indexes.result in
     let fits : SFits w64 row.rowid = search rules in
-    let takes = since pages.below pages.tells pages.limits start mid (λ (n : ℕ). TakesFromIndexes (pages.map mid) new n c.as_slice.result.now (map row_in c.as_slice-2.result.now) result)
-    c.in_ok-remove.ensures.kept c.take_from_indexes.ensures.taken told in
+    let takes = since pages.below pages.tells pages.limits start mid (λ (n : ℕ). TakesFromIndexes (pages.map mid) new n c.as_slice.result.now (row_in row ∷ []) result)
+    c.in_ok-remove.ensures.kept c.take_row_from_indexes.ensures.taken told in
     row_taken old (pages.map mid) size table (row_in row) new there result
     (subst (λ (n : ℤ). RemovesRow old (pages.map mid) size table.root n (Ok there)) (to_z-of_z w64 row.rowid fits) (c.in_ok-remove.ensures.removed told))
-    (subst (λ (them : List Index). TakesFromIndexes (pages.map mid) new size them (row_in row ∷ []) result) c.as_slice.ensures
-    (subst (λ (rows : List TableRow). TakesFromIndexes (pages.map mid) new size c.as_slice.result.now rows result) (ap (map row_in) (c.as_slice-2.ensures ∙ c.one.ensures)) takes)))
+    (subst (λ (them : List Index). TakesFromIndexes (pages.map mid) new size them (row_in row ∷ []) result) c.as_slice.ensures takes))

@@ -1,6 +1,8 @@
 use Rattle.std.proofs.Common.{rules, subst, ◌∙◌, ◌-◌, ℕ, List, length, map, take, drop, Ok, Err}
 use Rattle.catalog.specs.declared.tables.Index.{Index}
-use Rattle.index_entries.specs.Keeping.{TakesEntries, row_in}
+use Rattle.query_terms.specs.Rows.{row_at}
+use Rattle.catalog.specs.Rows.{as_row}
+use Rattle.index_entries.specs.Keeping.{TakesEntries}
 use Rattle.db_layout.specs.Trees.{columns_of}
 use Rattle.db_write.specs.Turning.{TakesFromIndexes}
 use Rattle.db_write.proofs.Looping.{first_of, none_left, since}
@@ -14,7 +16,7 @@ returns-in_err-take_from_index-clause-taken g c = λ told.
     let mid = c.indexes.pages in
     let new = pages.map c.take_from_index.new.pages in
     let size = (pages.limits (pages.below old)).page in
-    let rows = map row_in c.args.rows.now in
+    let rows = map (λ place. as_row (row_at c.args.rows.now place)) c.args.places.now in
     let index = c.index-item.result in
     let fault = c.in_err-take_from_index.field-0.0 in
     let result = c.from_residual.result in
@@ -29,7 +31,7 @@ indexes-preserved g c =
     let old = c.args.pages.now in
     let mid = c.indexes.pages in
     let size = (pages.limits (pages.below old)).page in
-    let rows = map row_in c.args.rows.now in
+    let rows = map (λ place. as_row (row_at c.args.rows.now place)) c.args.places.now in
     let index = c.index-item.result in
     record {
       kept = c.in_ok-take_from_index.ensures.kept ∙ c.indexes.invariant.kept;
@@ -48,6 +50,6 @@ returns-clause-taken g c = λ told.
     let old = c.args.pages.now in
     let now = pages.map c.indexes.pages in
     let size = (pages.limits (pages.below old)).page in
-    let rows = map row_in c.args.rows.now in
+    let rows = map (λ place. as_row (row_at c.args.rows.now place)) c.args.places.now in
     c.indexes.invariant.decides told now (Ok tt)
     (subst (λ (them : List Index). TakesFromIndexes now now size them rows (Ok tt)) (none_left c.indexes.left.now c.in_default.len_below) (takes_none now size rows)))

@@ -37,8 +37,8 @@ returns-in_err-replace_batch-clause-replaced g c = λ told.
     let result = c.from_residual-in_err-replace_batch.result in
     let does = since pages.below pages.tells pages.limits old c.rows.pages (λ (n : ℕ). ReplacesEntries mid new n c.args.root columns (map row_in batch) (map row_in come) (Err fault)) c.rows.invariant.0.kept c.in_err-replace_batch.ensures.replaced told in
     let even = length-map batch row_in ∙ c.split_at.ensures.front_len ∙ sym c.split_at-in-rows.ensures.front_len ∙ sym (length-map come row_in) in
-    let first = rows_parted c.max-passed.result c.rows.left.now batch rest c.split_at.ensures.front c.split_at.ensures.back in
-    let second = rows_parted c.max-passed.result c.rows.next.now come others c.split_at-in-rows.ensures.front c.split_at-in-rows.ensures.back in
+    let first = rows_parted row_in c.max-passed.result c.rows.left.now batch rest c.split_at.ensures.front c.split_at.ensures.back in
+    let second = rows_parted row_in c.max-passed.result c.rows.next.now come others c.split_at-in-rows.ensures.front c.split_at-in-rows.ensures.back in
     c.rows.invariant.0.decides told new result
     (subst (λ (rs : List Row). ReplacesEntries mid new size c.args.root columns rs (map row_in c.rows.next.now) result) (sym first)
     (subst (λ (rs : List Row). ReplacesEntries mid new size c.args.root columns (map row_in batch ++ map row_in rest) rs result) (sym second)
@@ -66,8 +66,8 @@ rows-preserved-in_ok-replace_batch g c =
     let come = c.split_at-in-rows.result.0.now in
     let others = c.split_at-in-rows.result.1.now in
     let even = length-map batch row_in ∙ c.split_at.ensures.front_len ∙ sym c.split_at-in-rows.ensures.front_len ∙ sym (length-map come row_in) in
-    let first = rows_parted c.max-passed.result c.rows.left.now batch rest c.split_at.ensures.front c.split_at.ensures.back in
-    let second = rows_parted c.max-passed.result c.rows.next.now come others c.split_at-in-rows.ensures.front c.split_at-in-rows.ensures.back in (
+    let first = rows_parted row_in c.max-passed.result c.rows.left.now batch rest c.split_at.ensures.front c.split_at.ensures.back in
+    let second = rows_parted row_in c.max-passed.result c.rows.next.now come others c.split_at-in-rows.ensures.front c.split_at-in-rows.ensures.back in (
       record {
         kept = c.in_ok-replace_batch.ensures.kept ∙ c.rows.invariant.0.kept;
         causes = search rules;
@@ -102,8 +102,8 @@ rows-preserved g c =
     let others = c.split_at-in-rows.result.1.now in
     let n = c.max-passed.result in
     let even = length-map batch row_in ∙ c.split_at.ensures.front_len ∙ sym c.split_at-in-rows.ensures.front_len ∙ sym (length-map come row_in) in
-    let first = rows_parted n left batch rest c.split_at.ensures.front c.split_at.ensures.back in
-    let second = rows_parted n next come others c.split_at-in-rows.ensures.front c.split_at-in-rows.ensures.back in
+    let first = rows_parted row_in n left batch rest c.split_at.ensures.front c.split_at.ensures.back in
+    let second = rows_parted row_in n next come others c.split_at-in-rows.ensures.front c.split_at-in-rows.ensures.back in
     let some = some_listed left (λ none. grind (arith, none, c.is_empty.ensures, c.rows-test.true)) in
     let also = some_listed next (λ none. grind (arith, none, c.is_empty-in-rows.ensures, c.if-not-is_empty.true)) in
     let none : changed columns (map row_in left) (map row_in next) ≡ 0 = omega (arith, c.count_changed-count.ensures, c.if-count-gt0.false) in

@@ -1,7 +1,7 @@
 use Rattle.std.proofs.Common.{◌∙◌, ap, map, take, [], ◌∷◌, ◌++◌}
 use Rattle.std.proofs.lemmas.List.{map_push}
 use Rattle.query_terms.specs.Rows.{row_at}
-use Rattle.row_change.specs.Meaning.{as_row}
+use Rattle.catalog.specs.Rows.{as_row}
 use Rattle.row_change.specs.NewRows.{row_of}
 use Rattle.row_change.proofs.Meant.{one_further, up_to_end}
 use Rattle.row_change.proofs.meaning.copies_at.Goals as goal

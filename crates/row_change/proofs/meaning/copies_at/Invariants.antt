@@ -1,7 +1,7 @@
 -- the copies up to here
 use Rattle.std.proofs.Common.{◌≡◌, map, take}
 use Rattle.query_terms.specs.Rows.{row_at}
-use Rattle.row_change.specs.Meaning.{as_row}
+use Rattle.catalog.specs.Rows.{as_row}
 use Rattle.row_change.specs.NewRows.{row_of}
 use Rattle.row_change.proofs.meaning.copies_at.Given as goal
 

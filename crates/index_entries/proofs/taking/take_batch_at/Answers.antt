@@ -1,0 +1,17 @@
+use Rattle.std.proofs.Common.{◌∙◌, ℕ, map}
+use Rattle.query_terms.specs.Rows.{row_at}
+use Rattle.catalog.specs.Rows.{as_row}
+use Rattle.index_entries.specs.Keeping.{columns_in}
+use Rattle.index_entries.proofs.Gone.{batch_taken, entries_by_rows}
+use Rattle.index_entries.proofs.Turning.{same_collations}
+use Rattle.index_entries.proofs.taking.take_batch_at.Goals as goal
+
+pub returns-clause-taken : goal.returns-clause-taken
+returns-clause-taken g c = λ told.
+    (let pages = g.P.Pages in
+    let old = c.args.pages.now in
+    let columns = columns_in c.args.columns.now in
+    let row = λ (place : ℕ). as_row (row_at c.args.rows.now place) in
+    let entries = c.as_slice.ensures.value ∙ c.in_ok-entries.ensures.made ∙ entries_by_rows columns row c.args.places.now in
+    batch_taken (pages.limits (pages.below old)).page c.args.root columns (pages.map old) (pages.map c.take_gone.new.pages) (map row c.args.places.now) c.as_slice.result.now c.args.under.now entries
+    (c.requires ∙ same_collations c.args.columns.now) c.take_gone.result (c.take_gone.ensures.taken told))
