@@ -24,3 +24,4 @@ pub mod Marked
 mod LoadedFiles
 mod OneView
 mod PastLimits
+mod Quotes

@@ -1,7 +1,7 @@
 //! Values as literals of SQL.
 
-ghost use Rattle.std.specs.Prelude.{◌≡◌, ◌++◌, ◌∷◌, OnOk};
-ghost use Rattle.std.specs.List.{flat_map};
+ghost use Rattle.std.specs.Prelude.{◌==◌, ◌≡◌, ◌++◌, ◌∷◌, OnOk};
+ghost use Rattle.std.specs.List.{flat_map, list_any};
 ghost use Rattle.engine.specs.Output.{doubled, literal, quoted, row_line};
 
 use itoa::Buffer;
@@ -19,14 +19,36 @@ fn put_byte(out: &mut Vec<u8>, byte: u8) -> Result<(), AllocError>
     Ok(())
 }
 
+/// Whether a text has a quote. The loop goes over all bytes, so that the compiler takes many at a time.
+fn has_quote(text: &[u8]) -> bool
+    ensures { result ≡ list_any (λ b. b == 39) text.now }
+{
+    let mut found = false;
+    'bytes: for byte in text {
+        found |= *byte == b'\'';
+    }
+    found
+}
+
+/// Writes the bytes of a text, each quote twice: at once where there is none.
+fn put_doubled(out: &mut Vec<u8>, text: &[u8]) -> Result<(), AllocError>
+    ensures { OnOk result (out.new.items ≡ out.old.items ++ flat_map doubled text.now) }
+{
+    if !has_quote(text) {
+        return out.extend_from_slice(text);
+    }
+    'bytes: for byte in text {
+        put_byte(out, *byte)?;
+    }
+    Ok(())
+}
+
 /// Writes a text between quotes.
 pub fn put_text(out: &mut Vec<u8>, text: &[u8]) -> Result<(), AllocError>
     ensures { OnOk result (out.new.items ≡ out.old.items ++ quoted text.now) }
 {
     out.push(b'\'')?;
-    'bytes: for byte in text {
-        put_byte(out, *byte)?;
-    }
+    put_doubled(out, text)?;
     out.push(b'\'')?;
     Ok(())
 }
