@@ -25,7 +25,11 @@ def refuses(head):
 
 def kept_names(texts):
     """The functions that stay as they are: public ones that refuse nothing, and private ones that these, or methods, call."""
-    found = {name: (is_public, head + body, head) for text in texts for head, is_public, name, body in parts(text)}
+    found = {}
+    for head, is_public, name, body in (part for text in texts for part in parts(text)):
+        # (of two of one name, in two files, the public one counts)
+        if is_public or name not in found:
+            found[name] = (is_public, head + body, head)
     kept = {name for name, (is_public, _, head) in found.items() if is_public and not refuses(head)}
     reached = kept
     others = [FUNCTION.sub("", text) for text in texts]
@@ -49,7 +53,8 @@ def stub(text, kept, gone):
         name, whole = found.group(3), found.group(0)
         if name in kept:
             return whole
-        return "" if name in gone else whole[:found.start(4) - found.start(0)] + STUB
+        head = whole[:found.start(4) - found.start(0)]
+        return re.sub(r"^#\[cycle\(\w+\)\]\n", "", head, flags=re.M) + STUB if found.group(2) else ""
 
     def imported(found):
         path, names = found.group(1), [name.strip() for name in found.group(2).strip("{}").split(",")]
