@@ -1,7 +1,9 @@
 -- What is written is a page of the cells.
-use Rattle.std.proofs.Common.{◌≡◌, ◌⊎◌, inl, inr, ℕ, zero, suc, ◌+◌, ◌-◌, ◌*◌, ◌^◌, ◌<◌, ◌≤◌, List, [], ◌∷◌, ◌++◌, length, map, take, drop, reverse, replicate, refl, sym, ap, ◌∙◌, append_assoc, arith}
+use Rattle.std.proofs.Common.{◌≡◌, ◌⊎◌, inl, inr, ℕ, zero, suc, ◌+◌, ◌-◌, ◌*◌, ◌^◌, ◌<◌, ◌≤◌, List, [], ◌∷◌, ◌++◌, length, map, take, drop, reverse, replicate, Bor, slice_index_or, refl, sym, ap, ◌∙◌, append_assoc, arith}
 use Rattle.std.specs.List.{AllByRecursion, flat_map}
-use Rattle.std.proofs.lemmas.List.{append-nil, reverse-append, length-append, length-replicate}
+use Rattle.std.proofs.lemmas.List.{append-nil, reverse-append, length-append, length-replicate, length-take-le, length-drop, drop_at, drop_all, drop-drop, take_all, take-replicate}
+use borrow.Rule.Slice.PartMut.{put_mid, post_of}
+use Rattle.std.proofs.Math.Seq.{take-append-add}
 use Rattle.std.proofs.lemmas.Grind.{flat_map-append}
 use Rattle.tree_page.specs.Cells.{Span, pointer, Pairwise, IsAt, IsApart, AreApart, page_header, front, IsTreePage}
 use Rattle.tree_page.specs.Reading.{type_of}
@@ -28,6 +30,9 @@ some_drop zero cells some = some
 some_drop (suc n) [] some = tt
 some_drop (suc n) (cell ∷ cells) some = some_drop n cells some.1
 
+abbrev bytes_of : List (Bor (List ℕ)) → List (List ℕ)
+bytes_of cells = map (λ (cell : Bor (List ℕ)). cell.now) cells
+
 -- the cells from the last to the first
 abbrev texts : List (List ℕ) → List ℕ
 texts cells = flat_map (λ (cell : List ℕ). cell) (reverse cells)
@@ -37,12 +42,12 @@ texts_first cell cells =
     ap (flat_map (λ (cell : List ℕ). cell)) (reverse-append (cell ∷ []) cells) ∙ flat_map-append (λ (cell : List ℕ). cell) (reverse cells) (cell ∷ [])
     ∙ ap (λ (x : List ℕ). texts cells ++ x) (append-nil cell)
 
-length-texts : (cells : List (List ℕ)) → length (texts cells) ≡ total (map length cells)
+pub length-texts : (cells : List (List ℕ)) → length (texts cells) ≡ total (map length cells)
 length-texts [] = refl
 length-texts (cell ∷ cells) = omega (arith, ap length (texts_first cell cells), length-append (texts cells) cell, length-texts cells)
 
 -- two bytes for each pointer
-length-pointers : (end : ℕ) (cells : List (List ℕ)) → length (flat_map pointer (spans_below end cells)) ≡ 2 * length cells
+pub length-pointers : (end : ℕ) (cells : List (List ℕ)) → length (flat_map pointer (spans_below end cells)) ≡ 2 * length cells
 length-pointers end [] = refl
 length-pointers end (cell ∷ cells) = omega (arith, length-pointers (end - length cell) cells)
 
@@ -145,6 +150,49 @@ page_built before page_size kind right cells fits =
       },
       len,
     )
+
+-- zeros up to a place
+pub zeros_up_to : (out : List ℕ) (content written size : ℕ) → written ≡ length out → written ≤ content → content ≤ size → take content (out ++ replicate (size - written) 0) ≡ out ++ replicate (content - written) 0
+zeros_up_to out content written size w low high =
+    let place : content ≡ length out + (content - written) = omega (arith, w, low) in
+    ap (λ (n : ℕ). take n (out ++ replicate (size - written) 0)) place ∙ take-append-add out (replicate (size - written) 0) (content - written)
+    ∙ ap (λ (x : List ℕ). out ++ x) (take-replicate (content - written) (size - written) 0 (omega (arith, high)))
+
+-- one cell more before those that were written from the end downwards
+pub cells_filled : (left : List (Bor (List ℕ))) (none : Bor (List ℕ)) (old new : List ℕ) (end : ℕ) → 1 ≤ length left → total (map length (bytes_of left)) ≡ end → end ≤ length old → new ≡ (slice_index_or left 0 none).now
+    → (total (map length (bytes_of (take (length left - 1) (drop 1 left)))) ≡ end - length (slice_index_or left 0 none).now)
+    × (end - length (slice_index_or left 0 none).now ≤ length (put_mid (end - length (slice_index_or left 0 none).now) (end - (end - length (slice_index_or left 0 none).now)) old new))
+    × (texts (bytes_of (take (length left - 1) (drop 1 left))) ++ drop (end - length (slice_index_or left 0 none).now) (put_mid (end - length (slice_index_or left 0 none).now) (end - (end - length (slice_index_or left 0 none).now)) old new) ≡ texts (bytes_of left) ++ drop end old)
+cells_filled [] none old new end some sum within is = absurd (omega (arith, some))
+cells_filled (cell ∷ cells) none old new end some sum within is =
+    let start = end - length cell.now in
+    let last : start + (end - start) ≡ end = omega arith in
+    let after : post_of start (end - start) old ≡ drop end old = drop-drop (end - start) start old ∙ ap (λ (n : ℕ). drop n old) last in
+    let whole : put_mid start (end - start) old new ≡ take start old ++ (cell.now ++ drop end old) =
+    ap (λ (x : List ℕ). take start old ++ (x ++ post_of start (end - start) old)) is ∙ ap (λ (x : List ℕ). take start old ++ (cell.now ++ x)) after in
+    let low : length (take start old) ≡ start = length-take-le start old (omega (arith, within)) in
+    let from : drop start (put_mid start (end - start) old new) ≡ cell.now ++ drop end old = ap (drop start) whole ∙ drop_at (take start old) (cell.now ++ drop end old) start low in
+    rw (take_all (suc (length cells) - 1) cells (omega arith)) (
+      omega (arith, sum),
+      omega (arith, low, ap length whole, length-append (take start old) (cell.now ++ drop end old)),
+      ap (λ (x : List ℕ). texts (bytes_of cells) ++ x) from ∙ sym (append_assoc (texts (bytes_of cells)) cell.now (drop end old)) ∙ ap (λ (x : List ℕ). x ++ drop end old) (sym (texts_first cell.now (bytes_of cells))),
+    )
+
+-- what was written over the end of a list
+pub over_end : (kept old new end : List ℕ) (at len : ℕ) → old ≡ kept → at ≤ length old → len ≡ length kept → new ≡ end → length end ≡ length old - at
+    → take len (put_mid at (length old - at) old new ++ drop (length (put_mid at (length old - at) old new)) kept) ≡ take at old ++ end
+over_end kept old new end at len one within long is size =
+    let past : post_of at (length old - at) old ≡ [] = drop_all (length old - at) (drop at old) (omega (arith, length-drop at old)) in
+    let whole : put_mid at (length old - at) old new ≡ take at old ++ end = ap (λ (x : List ℕ). take at old ++ (new ++ x)) past ∙ ap (λ (x : List ℕ). take at old ++ x) (append-nil new ∙ is) in
+    let fits : length (take at old ++ end) ≡ length kept = omega (arith, length-append (take at old) end, length-take-le at old within, size, within, ap length one) in
+    ap (λ (x : List ℕ). take len (x ++ drop (length x) kept)) whole
+    ∙ (ap (λ (x : List ℕ). take len ((take at old ++ end) ++ x)) (drop_all (length (take at old ++ end)) kept (omega (arith, fits)))
+    ∙ (ap (take len) (append-nil (take at old ++ end)) ∙ take_all len (take at old ++ end) (omega (arith, fits, long))))
+
+-- how long the page is up to its pointers
+pub fronts_len : (before right header out0 out1 out2 out3 : List ℕ) → length header ≡ 8 → out0 ≡ [] → out1 ≡ out0 ++ before → out2 ≡ out1 ++ header → out3 ≡ out2 ++ right → length out3 ≡ length before + 8 + length right
+fronts_len before right header out0 out1 out2 out3 eight e0 e1 e2 e3 =
+    omega (arith, eight, ap length e0, ap length e1, ap length e2, ap length e3, length-append out0 before, length-append out1 header, length-append out2 right)
 
 -- the parts of a page as they are written one after the other
 pub page_parts : (before right out0 out1 out2 out3 out4 out5 out6 : List ℕ) (page_size content written : ℕ) (kind : Kind) (cells : List (List ℕ)) → Fits page_size (length before) (length right) cells → content ≡ content_of page_size cells → out0 ≡ []

@@ -1,6 +1,6 @@
 //! Writing one page.
 
-ghost use Rattle.std.specs.Prelude.{◌≡◌, ◌≤◌, ◌<◌, ◌+◌, ◌++◌, ◌↔◌, ◌^◌, ◌-◌, [], ◌∷◌, IsTrue, length, map, replicate, reverse, min, IfOk, IfErr, OnOk};
+ghost use Rattle.std.specs.Prelude.{◌≡◌, ◌≤◌, ◌<◌, ◌+◌, ◌++◌, ◌↔◌, ◌^◌, ◌-◌, ◌*◌, [], ◌∷◌, IsTrue, length, vec_capacity, map, replicate, reverse, min, IfOk, IfErr, OnOk};
 ghost use Rattle.std.specs.List.{AllByRecursion, flat_map};
 ghost use Rattle.std.specs.Int.{w16, to_be_bytes};
 ghost use Rattle.tree_page.specs.Cells.{pointer, page_header, IsTreePage};
@@ -87,8 +87,9 @@ pub fn fits(page_size: usize, start: usize, kind: Kind, cells: &[&[u8]]) -> bool
 /// Writes the header of a page with `count` cells, of which the last begins at `content`.
 fn put_header(out: &mut Vec<u8>, kind: Kind, count: usize, content: usize) -> Result<(), AllocError>
     requires { (count < 2 ^ 16) × (content ≤ 2 ^ 16) }
-    ensures { OnOk result (out.new.items ≡ out.old.items ++ page_header (type_of kind)
+    ensures header { OnOk result (out.new.items ≡ out.old.items ++ page_header (type_of kind)
         (0 ∷ 0 ∷ []) count (content_bytes content) 0) }
+    ensures capacity { vec_capacity out.old ≤ vec_capacity out.new }
 {
     let [high, low] = (count as u16).to_be_bytes();
     let [content_high, content_low] = ((content % 65536) as u16).to_be_bytes();
@@ -104,46 +105,51 @@ fn put_header(out: &mut Vec<u8>, kind: Kind, count: usize, content: usize) -> Re
     ])
 }
 
-/// Writes the pointers to cells of which the first ends at `end` and each next one ends where the one before begins.
-fn put_pointers(out: &mut Vec<u8>, end: usize, cells: &[&[u8]]) -> Result<(), AllocError>
+/// Writes the pointers to cells of which the first ends at `end` and each next one ends where the one before begins, where there is
+/// room for them.
+fn put_pointers(out: &mut Vec<u8>, end: usize, cells: &[&[u8]])
     requires room { total (map length (map (λ cell. cell.now) cells.now)) ≤ end }
     requires addressed { end ≤ 2 ^ 16 }
     requires some { AllByRecursion (λ cell. 0 < length cell) (map (λ cell. cell.now) cells.now) }
-    ensures { OnOk result (out.new.items ≡ out.old.items ++ flat_map pointer
-        (spans_below end (map (λ cell. cell.now) cells.now))) }
+    requires reserved { length out.old.items + 2 * length cells.now ≤ vec_capacity out.old }
+    ensures { out.new.items ≡ out.old.items ++ flat_map pointer
+        (spans_below end (map (λ cell. cell.now) cells.now)) }
 {
     let mut offset = end;
     let mut left = cells;
     'cells: while let [cell, after @ ..] = left {
         offset -= cell.len();
-        out.extend_from_slice(&(offset as u16).to_be_bytes())?;
+        let [high, low] = (offset as u16).to_be_bytes();
+        out.push_reserved(high);
+        out.push_reserved(low);
         left = after;
     }
-    Ok(())
 }
 
-/// Writes the cells, the last one first.
-fn put_cells(out: &mut Vec<u8>, cells: &[&[u8]]) -> Result<(), AllocError>
-    ensures { OnOk result (out.new.items ≡ out.old.items ++ flat_map (λ cell. cell)
-        (reverse (map (λ cell. cell.now) cells.now))) }
+/// Writes the cells over the bytes of a room that they take whole, the last one first.
+fn fill_cells(room: &mut [u8], cells: &[&[u8]])
+    requires { length room.old ≡ total (map length (map (λ cell. cell.now) cells.now)) }
+    ensures { room.new ≡ flat_map (λ cell. cell) (reverse (map (λ cell. cell.now) cells.now)) }
 {
+    let mut end = room.len();
     let mut left = cells;
-    'cells: while let Some(cell) = left.last() {
-        out.extend_from_slice(cell)?;
-        left = &left[..left.len() - 1];
+    'cells: while let [cell, after @ ..] = left {
+        let start = end - cell.len();
+        room[start..end].copy_from_slice(cell);
+        end = start;
+        left = after;
     }
-    Ok(())
 }
 
-/// Writes so many zeros, 64 at a time.
+/// Writes so many zeros, 256 at a time.
 fn put_zeros(out: &mut Vec<u8>, count: usize) -> Result<(), AllocError>
     ensures { OnOk result (out.new.items ≡ out.old.items ++ replicate count 0) }
 {
-    let zeros = [0; 64];
+    let zeros = [0; 256];
     let mut left = count;
-    'rounds: while 64 < left {
+    'rounds: while 256 < left {
         out.extend_from_slice(&zeros)?;
-        left -= 64;
+        left -= 256;
     }
     out.extend_from_slice(&zeros[..left])
 }
@@ -167,10 +173,10 @@ pub(crate) fn write(
     out.extend_from_slice(front)?;
     put_header(&mut out, kind, cells.len(), content)?;
     out.extend_from_slice(right)?;
-    put_pointers(&mut out, page_size, cells)?;
-    let free = content.saturating_sub(out.len());
-    put_zeros(&mut out, free)?;
-    put_cells(&mut out, cells)?;
+    put_pointers(&mut out, page_size, cells);
+    let left = page_size - out.len();
+    put_zeros(&mut out, left)?;
+    fill_cells(&mut out[content..], cells);
     Ok(out)
 }
 

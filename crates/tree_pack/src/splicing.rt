@@ -1,6 +1,6 @@
 //! Putting other cells in the place of some of a page's, and the cells of two pages onto one.
 
-ghost use Rattle.std.specs.Prelude.{◌≡◌, ◌⊎◌, ◌≤◌, ◌-◌, ◌++◌, ◌∷◌, [], length, map, take, drop, IfErr, MatchResult};
+ghost use Rattle.std.specs.Prelude.{◌≡◌, ◌⊎◌, ◌≤◌, ◌+◌, ◌-◌, ◌++◌, ◌∷◌, [], length, map, take, drop, vec_capacity, IfOk, IfErr, OnOk, MatchResult};
 ghost use Rattle.tree_page.specs.Node.{Node, IsNode};
 ghost use Rattle.tree_pack.specs.Building.{right_bytes};
 ghost use Rattle.tree_pack.specs.Splicing.{Splices, SplicesOne, Joins};
@@ -13,22 +13,40 @@ use sqlval::{Damage, Fault, R};
 use std::alloc::Global;
 use tree_page::TreePage;
 
-/// Appends the cells of a page from one place up to another. (`Memory`; `Damaged(Cell, 0)` if the page has no such cells.)
+/// Appends the cells of a page from one place up to another, where there is room for them. (`Damaged(Cell, 0)` if the page has no such
+/// cells.)
 fn append_cells<'a>(out: &mut Vec<&'a [u8]>, page: &TreePage<'a>, from: usize, to: usize) -> R<()>
+    requires { length out.old.items + (to - from) ≤ vec_capacity out.old }
     ensures put { (node : Node) (is : IsNode page.now.bytes page.now.start node) → from ≤ to
         → to ≤ length is.cells
         → MatchResult result (λ _. map (λ cell. cell.now) out.new.items ≡ map
         (λ cell. cell.now) out.old.items ++ take (to - from) (drop from is.cells))
-        (λ fault. fault ≡ Fault.Memory) }
-    ensures refused { IfErr result (λ fault. (fault ≡ Fault.Memory)
-        ⊎ (fault ≡ Fault.Damaged Damage.Cell 0)) }
+        (λ fault. ⊥) }
+    ensures len { OnOk result (length out.new.items ≡ length out.old.items + (to - from)) }
+    ensures capacity { vec_capacity out.old ≤ vec_capacity out.new }
+    ensures refused { IfErr result (λ fault. fault ≡ Fault.Damaged Damage.Cell 0) }
 {
     let mut index = from;
     'cells: while index < to {
-        out.push(page.cell(index)?)?;
+        out.push_reserved(page.cell(index)?);
         index += 1;
     }
     Ok(())
+}
+
+/// Room for the cells of one page before a place, for others, and for those of another page from a place on. (`Memory` alone.)
+fn room_for<'a>(alloc: Global, to: usize, between: usize, rest: usize) -> R<Vec<&'a [u8]>>
+    ensures empty { IfOk result (λ room. room.items ≡ []) }
+    ensures reserved { IfOk result (λ room. to + between + rest ≤ vec_capacity room) }
+    ensures refused { IfErr result (λ fault. fault ≡ Fault.Memory) }
+{
+    let Some(both) = to.checked_add(between) else {
+        return Err(Fault::Memory);
+    };
+    let Some(all) = both.checked_add(rest) else {
+        return Err(Fault::Memory);
+    };
+    Ok(Vec::with_capacity(alloc, all)?)
 }
 
 /// The cells of a page before a place, those given, and those of another page from a place on. (Refusals as for `append_cells`.)
@@ -49,10 +67,11 @@ fn cells_around<'a>(
     ensures refused { IfErr result (λ fault. (fault ≡ Fault.Memory)
         ⊎ (fault ≡ Fault.Damaged Damage.Cell 0)) }
 {
-    let mut all = Vec::new(alloc);
+    let end = right.len();
+    let mut all = room_for(alloc, to, between.len(), end.saturating_sub(from))?;
     append_cells(&mut all, left, 0, to)?;
     all.extend_from_slice(between)?;
-    append_cells(&mut all, right, from, right.len())?;
+    append_cells(&mut all, right, from, end)?;
     Ok(all)
 }
 

@@ -1,9 +1,9 @@
 -- The header of a tree's page, and the pointers after it, are read as what they say.
-use Rattle.std.proofs.Common.{◌≡◌, ℕ, zero, suc, ◌+◌, ◌*◌, ◌/◌, ◌%◌, ◌^◌, ◌<◌, ◌≤◌, List, [], ◌∷◌, ◌++◌, length, drop, slice_index_or, Option, Some, None, refl, sym, ap, ◌∙◌, append_assoc, arith}
+use Rattle.std.proofs.Common.{◌≡◌, ℕ, zero, suc, ◌+◌, ◌*◌, ◌/◌, ◌%◌, ◌^◌, ◌<◌, ◌≤◌, List, [], ◌∷◌, ◌++◌, length, take, drop, slice_index_or, Option, Some, None, refl, sym, ap, ◌∙◌, append_assoc, arith}
 use Rattle.std.specs.List.{flat_map}
 use Rattle.std.specs.Int.{w16, w32, to_be_bytes}
 use Rattle.std.proofs.lemmas.Bool.{lt-ltb, le-ltb}
-use Rattle.std.proofs.lemmas.List.{drop_at, drop-drop, length-append}
+use Rattle.std.proofs.lemmas.List.{drop_at, drop-drop, length-append, length-drop}
 use Rattle.std.proofs.lemmas.Nat.{from_be_bytes-to_be_bytes_2, from_be_bytes-to_be_bytes_4}
 use Rattle.tree_page.specs.declared.items.Kind.{Kind}
 use Rattle.tree_page.specs.declared.items.Kind.TheVariants.{TableLeaf, TableInterior, IndexLeaf, IndexInterior}
@@ -198,3 +198,21 @@ tail_again kind page start right cells index is wide less =
     let p = points page is.spans cells is.rest index is.cells_are less in
     let at = placed (type_of kind) page start right cells is (right_size kind) index wide in
     tail_by page start (kind, length cells) index cell less s.within (omega (arith, s.long, wide, less)) (record { span = p.span; more = p.more; parts = at ∙ p.parts; there = p.there })
+
+-- two bytes are read whatever comes after them
+pair_of_two : (count : ℕ) (bytes : List ℕ) → count ≡ 2 → 2 ≤ length bytes → leading_pair (take count bytes) ≡ leading_pair bytes
+unfolding leading_pair
+pair_of_two count (high ∷ low ∷ bytes) two long = rw two refl
+pair_of_two count [] two long = absurd (omega arith)
+pair_of_two count (high ∷ []) two long = absurd (omega arith)
+
+-- a pointer that is there is read where it stands
+pub tail_read : (page : List ℕ) (start : ℕ) (header : Kind × ℕ) (index at count : ℕ) (read : Option ℕ) → index < header.1 → at ≡ start + 8 + right_size header.0 + 2 * index → at + 2 ≤ length page → count ≡ 2
+    → read ≡ leading_pair (take count (drop at page)) → tail_on page start header index ≡ (read >>= λ offset. bytes_from offset page)
+unfolding tail_on
+tail_read page start header index at count read less place room two is =
+    let within : start ≤ length page = omega (arith, place, room) in
+    let inner : 8 + right_size header.0 + 2 * index ≤ length (drop start page) = omega (arith, place, room, length-drop start page) in
+    let long : 2 ≤ length (drop at page) = omega (arith, room, length-drop at page) in
+    let from : drop (8 + right_size header.0 + 2 * index) (drop start page) ≡ drop at page = drop-drop (8 + right_size header.0 + 2 * index) start page ∙ ap (λ (n : ℕ). drop n page) (omega (arith, place)) in
+    rw (lt-ltb index header.1 less, skips start page within, skips (8 + right_size header.0 + 2 * index) (drop start page) inner, from) (ap (λ (r : Option ℕ). r >>= λ offset. bytes_from offset page) (sym (is ∙ pair_of_two count (drop at page) two long)))

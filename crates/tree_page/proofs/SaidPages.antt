@@ -303,6 +303,13 @@ has_front page start kind count fits e =
 pub front_within : (page : List ℕ) (start : ℕ) (header : Kind × ℕ) → AreBytes page → header_on page start ≡ Some header → front_end start header ≤ length page
 front_within page start header fits e = (has_front page start header.0 header.1 fits e).room
 
+-- so does each of them
+pub pointer_within : (page : List ℕ) (start : ℕ) (header : Kind × ℕ) (index : ℕ) → AreBytes page → header_on page start ≡ Some header → index < header.1 → start + 8 + right_size header.0 + 2 * index + 2 ≤ length page
+unfolding front_end
+pointer_within page start header index fits e less =
+    let within = front_within page start header fits e in
+    omega (arith, within, less)
+
 -- the cells of such a page
 all_there : (X : Type 0) (P : List ℕ → X → Type 0) (page : List ℕ) (start : ℕ) (kind : Kind) (count : ℕ) (marks : List Bool) → AreSaid X P kind (length page) → AreBytes page → front_end start (kind, count) ≤ length page
     → claimed_all page start (kind, count) ≡ Some marks → AreThere X P page (record { from = 0; to = front_end start (kind, count) } ∷ []) (from_pointer page start kind 0) count

@@ -1,8 +1,8 @@
 //! Cells at the front of bytes.
 
-ghost use Rattle.std.specs.Prelude.{◌≡◌, ◌≤◌, ◌<◌, ◌^◌, length, IfSome, option_map};
+ghost use Rattle.std.specs.Prelude.{◌≡◌, ◌≤◌, ◌<◌, ◌^◌, Some, length, IfSome, option_map};
 ghost use Rattle.tree_page.specs.Payload.{least as least_part, index_most, held_size};
-ghost use Rattle.tree_page.specs.Bytes.{header_parts, leading_local, leading_row, leading_rowid, leading_key, leading_entry, leading_between, after_cell, item_on, cell_on, number_on};
+ghost use Rattle.tree_page.specs.Bytes.{header_parts, header_on, leading_local, leading_row, leading_rowid, leading_key, leading_entry, leading_between, after_cell, item_on, cell_on, number_on};
 ghost use Rattle.tree_page.specs.Reading.{local_of, row_of, key_of, between_of};
 ghost use Rattle.tree_page.specs.Checking.{ends_on};
 
@@ -182,6 +182,7 @@ fn skip_cell(kind: Kind, usable: u64, bytes: &[u8]) -> Option<&[u8]>
 /// A row of a page whose header begins at an offset; None if the page ends before, or has no such row.
 #[inline(always)]
 pub fn find_row(page: &[u8], start: usize, header: Header, index: usize) -> Option<Row<'_>>
+    requires { header_on page.now start ≡ Some (header_parts header) }
     ensures { option_map row_of result ≡ item_on leading_row page.now start (header_parts header) index }
 {
     let tail = read_tail(page, start, header, index)?;
@@ -190,6 +191,7 @@ pub fn find_row(page: &[u8], start: usize, header: Header, index: usize) -> Opti
 
 /// A child and its key; None as for `find_row`.
 pub fn find_key(page: &[u8], start: usize, header: Header, index: usize) -> Option<Key>
+    requires { header_on page.now start ≡ Some (header_parts header) }
     ensures { option_map key_of result ≡ item_on (λ usable. leading_key) page.now start
         (header_parts header) index }
 {
@@ -199,6 +201,7 @@ pub fn find_key(page: &[u8], start: usize, header: Header, index: usize) -> Opti
 
 /// An entry; None as for `find_row`.
 pub fn find_entry(page: &[u8], start: usize, header: Header, index: usize) -> Option<Local<'_>>
+    requires { header_on page.now start ≡ Some (header_parts header) }
     ensures { option_map local_of result ≡ item_on leading_entry page.now start (header_parts header) index }
 {
     let tail = read_tail(page, start, header, index)?;
@@ -207,6 +210,7 @@ pub fn find_entry(page: &[u8], start: usize, header: Header, index: usize) -> Op
 
 /// A child and the entry after it; None as for `find_row`.
 pub fn find_between(page: &[u8], start: usize, header: Header, index: usize) -> Option<Between<'_>>
+    requires { header_on page.now start ≡ Some (header_parts header) }
     ensures { option_map between_of result ≡ item_on leading_between page.now start
         (header_parts header) index }
 {
@@ -218,6 +222,7 @@ pub fn find_between(page: &[u8], start: usize, header: Header, index: usize) -> 
 /// index.
 #[tactic(auto, unfolding(crate::specs::Bytes::number_on))]
 pub fn find_number(page: &[u8], start: usize, header: Header, index: usize) -> Option<i64>
+    requires { header_on page.now start ≡ Some (header_parts header) }
     ensures { result ≡ number_on header.kind page.now start (header_parts header) index }
 {
     match header.kind {
@@ -229,6 +234,7 @@ pub fn find_number(page: &[u8], start: usize, header: Header, index: usize) -> O
 
 /// The bytes of a cell; None as for `find_row`.
 pub fn find_cell(page: &[u8], start: usize, header: Header, index: usize) -> Option<&[u8]>
+    requires { header_on page.now start ≡ Some (header_parts header) }
     ensures { option_map (λ cell. cell.now) result ≡ cell_on page.now start (header_parts header) index }
 {
     let tail = read_tail(page, start, header, index)?;
@@ -238,6 +244,7 @@ pub fn find_cell(page: &[u8], start: usize, header: Header, index: usize) -> Opt
 
 /// The offsets where a cell begins and where it ends; None as for `find_row`.
 pub fn find_ends(page: &[u8], start: usize, header: Header, index: usize) -> Option<(usize, usize)>
+    requires { header_on page.now start ≡ Some (header_parts header) }
     ensures value { result ≡ ends_on page.now start (header_parts header) index }
     ensures within { IfSome result (λ ends. (ends.0 ≤ ends.1) × (ends.1 ≤ length page.now)) }
 {

@@ -45,7 +45,8 @@ fn claim(taken: &mut [bool], from: usize, to: usize) -> Option<()>
 
 /// Takes the bytes of each cell; None if one isn't there, or if one of its bytes is taken.
 fn claim_cells(page: &[u8], start: usize, header: Header, taken: &mut [bool]) -> Option<()>
-    requires { length taken.old ≡ length page.now }
+    requires header { header_on page.now start ≡ Some (header_parts header) }
+    requires taken { length taken.old ≡ length page.now }
     ensures { option_map (λ done. taken.new) result ≡ claimed_from page.now start
         (header_parts header) taken.old 0 header.len }
 {

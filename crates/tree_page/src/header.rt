@@ -1,6 +1,6 @@
 //! The header of a page, and the pointers after it.
 
-ghost use Rattle.std.specs.Prelude.{◌≡◌, ◌<◌, ◌≤◌, ◌^◌, ℕ, option_map};
+ghost use Rattle.std.specs.Prelude.{◌≡◌, ◌<◌, ◌≤◌, ◌^◌, ℕ, Some, option_map};
 ghost use Rattle.tree_page.specs.Bytes.{header_parts, bytes_from, leading_pair, leading_child, kind_of_type, right_size, node_header, header_on, last_on, tail_on};
 ghost use Rattle.tree_page.specs.Checking.{front_end};
 
@@ -115,15 +115,17 @@ pub fn read_last(bytes: &[u8], start: usize, kind: Kind) -> Option<u32>
     Some(last)
 }
 
-/// The page from a cell on; None past the last cell, and if the page ends before the cell begins.
+/// The page from a cell on; None past the last cell, and if the page ends before the cell begins. That the pointers are there is known
+/// since the header was read.
 #[tactic(auto, unfolding(crate::specs::Bytes::tail_on))]
 pub fn read_tail(bytes: &[u8], start: usize, header: Header, index: usize) -> Option<&[u8]>
+    requires { header_on bytes.now start ≡ Some (header_parts header) }
     ensures { option_map (λ tail. tail.now) result ≡ tail_on bytes.now start (header_parts header) index }
 {
     if index >= usize::from(header.len) {
         return None;
     }
-    let node = skip(bytes, start)?;
-    let pointer = skip(node, 8 + right_len(header.kind) + 2 * index)?;
-    skip(bytes, usize::from(read_pair(pointer)?))
+    let at = start + 8 + right_len(header.kind) + 2 * index;
+    let pointer = read_pair(&bytes[at..at + 2])?;
+    skip(bytes, usize::from(pointer))
 }

@@ -1,4 +1,5 @@
-use Rattle.std.proofs.Common.{◌≡◌, ◌≤◌, ◌^◌, ◌++◌, length, map}
+use Rattle.std.proofs.Common.{◌≡◌, ◌≤◌, ◌+◌, ◌*◌, ◌^◌, ◌++◌, length, map}
+use Rattle.std.specs.Prelude.{vec_capacity}
 use Rattle.std.specs.List.{flat_map}
 use Rattle.tree_page.specs.Cells.{pointer}
 use Rattle.tree_pack.specs.Parts.{total}
@@ -12,6 +13,7 @@ invariant-cells l = record {
   room : total (map length (map (λ cell. cell.now) l.left)) ≤ l.offset;
   near : l.offset ≤ 2 ^ 16;
   some : AreSome (map (λ cell. cell.now) l.left);
+  reserved : length l.out.items + 2 * length l.left ≤ vec_capacity l.out;
 }
 
 abbrev pub decreases-cells : goal.decreases-cells

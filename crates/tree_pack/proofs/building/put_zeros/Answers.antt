@@ -19,14 +19,14 @@ rounds-preserved c =
     let done = c.rounds.invariant in
     let le = done.0 in (
       omega (arith, le),
-      c.in_ok-extend_from_slice.ensures.items ∙ zeros_more c.rounds.out.items c.args.out.now.items (c.args.count - c.rounds.left) 64 (c.args.count - (c.rounds.left - 64)) done.1 (omega (arith, le, c.rounds-test.true)),
+      c.in_ok-extend_from_slice.ensures.items ∙ zeros_more c.rounds.out.items c.args.out.now.items (c.args.count - c.rounds.left) 256 (c.args.count - (c.rounds.left - 256)) done.1 (omega (arith, le, c.rounds-test.true)),
     )
 
 pub returns : goal.returns
 returns c =
     let done = c.rounds.invariant in
     let le = done.0 in
-    let few : c.rounds.left ≤ 64 = omega (arith, c.rounds-test.false) in
-    at_end c.extend_from_slice-2.result c.extend_from_slice-2.new.self.items c.rounds.out.items (take c.rounds.left (replicate 64 0)) _ c.extend_from_slice-2.ensures.items
-    (ap (λ (x : List ℕ). c.rounds.out.items ++ x) (take-replicate c.rounds.left 64 0 few)
+    let few : c.rounds.left ≤ 256 = omega (arith, c.rounds-test.false) in
+    at_end c.extend_from_slice-2.result c.extend_from_slice-2.new.self.items c.rounds.out.items (take c.rounds.left (replicate 256 0)) _ c.extend_from_slice-2.ensures.items
+    (ap (λ (x : List ℕ). c.rounds.out.items ++ x) (take-replicate c.rounds.left 256 0 few)
     ∙ zeros_more c.rounds.out.items c.args.out.now.items (c.args.count - c.rounds.left) c.rounds.left c.args.count done.1 (omega (arith, le)))

@@ -34,8 +34,8 @@ take_front-requires c =
     let within = front_within page c.args.start (header_parts c.args.header) (AreBytes-from_index page (λ i. omega (arith, c.type_inv.page i))) c.requires in
     omega (arith, within, c.front_len.ensures)
 
-pub claim_cells-requires : goal.claim_cells-requires
-claim_cells-requires c =
+pub claim_cells-requires-clause-taken : goal.claim_cells-requires-clause-taken
+claim_cells-requires-clause-taken c =
     let page = c.args.page.now in
     let within = front_within page c.args.start (header_parts c.args.header) (AreBytes-from_index page (λ i. omega (arith, c.type_inv.page i))) c.requires in
     let inside : c.front_len.result ≤ length page = omega (arith, within, c.front_len.ensures) in
