@@ -10,7 +10,7 @@ ghost use Rattle.query_answer.specs.Nesting.{all_found, at_leaf, filtered_by, fo
 use crate::arguments::check_arguments;
 use crate::nesting::Loops;
 use query_names::Reading;
-use query_terms::{Env, RowPlaces, Term, evaluate};
+use query_terms::{Env, RowPlaces, Term, owned_value};
 use sqlval::{Many, R, Value};
 use std::alloc::Global;
 
@@ -40,7 +40,7 @@ pub fn values_over(alloc: Global, terms: &[Term], env: Env<'_>, list: Many<Value
     let mut values = list.into_vec();
     values.clear();
     'terms: for term in terms {
-        values.push(evaluate(alloc, term, env)?.into_value(alloc)?)?;
+        values.push(owned_value(alloc, term, env)?)?;
     }
     Ok(Many::from_vec(values))
 }
@@ -51,7 +51,7 @@ fn order_values(alloc: Global, order: &[(Term, bool)], env: Env<'_>) -> R<Many<V
 {
     let mut values = Vec::with_capacity(alloc, order.len())?;
     'terms: for (term, _) in order {
-        values.push(evaluate(alloc, term, env)?.into_value(alloc)?)?;
+        values.push(owned_value(alloc, term, env)?)?;
     }
     Ok(Many::from_vec(values))
 }

@@ -13,6 +13,7 @@ ghost use Rattle.query_terms.specs.Values as meant;
 ghost use Rattle.query_terms.specs.declared.tree.TwoSided.TheVariants as operator_of;
 
 use crate::collating::affinity;
+use crate::columns::column_in;
 use crate::comparing::is_met;
 use crate::datum::Datum;
 use crate::evaluating;
@@ -98,7 +99,7 @@ fn compared(operator: Comparison, left: &Term, right: &Term, env: &Env<'_>) -> O
 /// The integer that an expression is: of a column, a literal, or of operators and comparisons over such. None where it is none, or may be
 /// refused.
 #[cycle(integer)]
-fn integer(term: &Term, env: &Env<'_>) -> Option<i64>
+pub(crate) fn integer(term: &Term, env: &Env<'_>) -> Option<i64>
     ensures { IfSome result (λ number. meant.value term.now (seen env.now) ≡ Ok (the.Int number)) }
 {
     match &term.node {
@@ -127,8 +128,8 @@ pub fn integer_holds(term: &Term, env: &Env<'_>) -> Option<bool>
 pub fn evaluate<'a>(alloc: Global, term: &'a Term, env: Env<'a>) -> R<Datum<'a>>
     ensures { AnswersBy datum (meant.value term.now (seen env.entry)) result }
 {
-    if let Node::Cell(source, place, _, _) = &term.node {
-        return Ok(Datum::Lent(env.cell(*source, *place)));
+    if let Some(field) = column_in(term, env) {
+        return Ok(Datum::Lent(field));
     }
     if let Some(number) = integer(term, &env) {
         return Ok(Datum::Lent(Field::Int(number)));

@@ -2,6 +2,7 @@
 #![tactic(auto)]
 
 mod collating;
+mod columns;
 mod comparing;
 mod datum;
 mod evaluating;
@@ -23,6 +24,7 @@ mod truth;
 ghost use Rattle.query_terms.specs.Laws.{ConvertsAsRelated, IntegersStandByOrder, RefusesReals};
 
 pub use collating::{affinity, collation};
+pub use columns::{column_in, owned_value};
 pub use comparing::{Manner, is_met};
 pub use datum::Datum;
 pub use integers::{evaluate, holds};

@@ -13,7 +13,7 @@ ghost use Rattle.query_totals.specs.Totals as meant;
 ghost use Rattle.query_totals.specs.Totals.{AreTaken, alone, argument_in, arguments_at, tallies_over, tallies_with, tally_over};
 
 use crate::tally::Tally;
-use query_terms::{Aggregate, Env, Node, Term, collation, evaluate};
+use query_terms::{Aggregate, Env, Node, Term, collation, column_in, evaluate};
 use sqlval::{Collation, Field, Many, R, Value};
 use std::alloc::Global;
 
@@ -52,16 +52,24 @@ pub fn no_rows(alloc: Global, terms: &[Term]) -> R<Vec<Tally>>
     Ok(tallies)
 }
 
+/// An expression's value is added to what is kept of an aggregate, or refused.
+fn add_value(alloc: Global, argument: &Term, env: Env<'_>, tally: &mut Tally) -> R<()>
+    ensures { AnswersBy (λ u. tally.new) (value argument.now (seen env.entry) then tally_with tally.old) result }
+{
+    if let Some(field) = column_in(argument, env) {
+        return tally.take(alloc, field);
+    }
+    let value = evaluate(alloc, argument, env)?;
+    tally.take(alloc, value.as_field())
+}
+
 /// An aggregate's argument at one more row is added to what is kept of it, or refused.
 fn add_to(alloc: Global, term: &Term, env: Env<'_>, tally: &mut Tally) -> R<()>
     ensures { AnswersBy (λ u. tally.new) (argument_in term.now (seen env.entry) then tally_with tally.old) result }
 {
     match &term.node {
         Node::Total(Aggregate::CountAll, _) => tally.take(alloc, Field::Null),
-        Node::Total(_, argument) => {
-            let value = evaluate(alloc, argument, env)?;
-            tally.take(alloc, value.as_field())
-        }
+        Node::Total(_, argument) => add_value(alloc, argument, env, tally),
         _ => tally.take(alloc, Field::Null),
     }
 }
